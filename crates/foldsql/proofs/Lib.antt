@@ -1,0 +1,5 @@
+pub mod Quotas
+pub mod Served
+pub mod Spelled
+pub mod Standing
+pub mod Turns

@@ -1,0 +1,116 @@
+-- The service of a map of quotas: what it has at a tenant, the sum of its quotas, and both with one tenant more.
+use Rattle.std.proofs.Common.{◌≡◌, ℕ, ◌+◌, ◌<◌, ◌≤◌, Bool, true, false, cond, List, [], ◌∷◌, refl, sym, ◌∙◌, ap, arith, Option, Some, None}
+use Rattle.std.specs.Prelude.{map as map_list, sum_by, is_some, nat_lt, codes}
+use Rattle.std.specs.Option.{option_map}
+use Rattle.std.specs.Map.{lookup}
+use Rattle.std.specs.Ordering.{nat_cmp, eq_by_cmp, is_eq}
+use Rattle.std.specs.declared.cmp.Ordering.TheVariants.{Less, Equal, Greater}
+use Rattle.std.specs.BTreeMap.{is_at}
+use Rattle.std.specs.Cmp.{nat_cmp_total, eq_by_cmp_equiv}
+use Rattle.std.specs.FinMap as map
+use Rattle.std.specs.FinMap.{find, put}
+use Rattle.std.specs.FinMap.Entries.{by_order}
+use Rattle.std.proofs.lemmas.Grind.{common_steps}
+use Rattle.std.proofs.lemmas.List.{nil_from_length}
+use Rattle.std.proofs.lemmas.List.Sums.{sum_by-cons}
+use Rattle.mt_tree.specs.declared.command.AdminCmd.TheVariants.{CreateTenant}
+use Rattle.mt_tree.specs.declared.code.Code.TheVariants.{NameExists, QuotasTooLarge}
+use Rattle.mt_tree.specs.declared.reply.Reply.TheVariants.{Text, Refused}
+use Rattle.mt_model.specs.Request.{Request, Command}
+use Rattle.mt_model.specs.Run.{IsStepped}
+use Rattle.mt_model.specs.Service.{PrivateDatabase, Service, empty_service, quota_total}
+use Rattle.mt_model.specs.Step.{Stepped, step, refused, accepted, with_tenant}
+use Rattle.foldsql.specs.Tenants.{service_of, database_of}
+
+-- the database with this quota
+abbrev with_quota : ℕ → PrivateDatabase
+with_quota q = record { quota = q }
+
+-- a look-up among the databases is one among the quotas
+find_database : (es : List (ℕ × ℕ)) (t : ℕ) → find nat_cmp t (map_list database_of es) ≡ option_map with_quota (lookup (is_at (nat_cmp t)) es)
+find_database [] t = refl
+find_database (e ∷ es) t = elim (is_at (nat_cmp t) e.0) as (λ b. cond b (Some (with_quota e.1)) (find nat_cmp t (map_list database_of es)) ≡ option_map with_quota (cond b (Some e.1) (lookup (is_at (nat_cmp t)) es))) [ true ↦ refl | false ↦ find_database es t ]
+
+-- what the service has at a tenant
+get_service : (es : List (ℕ × ℕ)) (t : ℕ) → map.get (service_of es).tenants t ≡ option_map with_quota (lookup (is_at (nat_cmp t)) es)
+get_service es t = map.get-from_entries nat_cmp_total (map_list database_of es) t ∙ find_database es t
+
+is_some_map : {A B : Type 0} (f : A → B) (o : Option A) → is_some (option_map f o) ≡ is_some o
+is_some_map f None = refl
+is_some_map f (Some x) = refl
+
+-- whether the service has a tenant
+pub contains_service : (es : List (ℕ × ℕ)) (t : ℕ) → map.contains_key (service_of es).tenants t ≡ is_some (lookup (is_at (nat_cmp t)) es)
+contains_service es t = ap is_some (get_service es t) ∙ is_some_map with_quota _
+
+map_cond : (b : Bool) (q : ℕ) (o : Option ℕ) → option_map with_quota (cond b (Some q) o) ≡ cond b (Some (with_quota q)) (option_map with_quota o)
+map_cond true q o = refl
+map_cond false q o = refl
+
+-- one quota more is one tenant more
+pub service_with : (es fs : List (ℕ × ℕ)) (t q : ℕ) → ((u : ℕ) → lookup (is_at (nat_cmp u)) fs ≡ cond (is_at (nat_cmp t) u) (Some q) (lookup (is_at (nat_cmp u)) es)) → service_of fs ≡ with_tenant (service_of es) t q
+service_with es fs t q updates =
+    ap (λ m. record { tenants = m }) (map.same_map nat_cmp_total map.nat_cmp-IsAntisymmetric _ _ (λ u.
+    get_service fs u ∙ ap (option_map with_quota) (updates u) ∙ map_cond (is_at (nat_cmp t) u) q _
+    ∙ ap (λ b. cond b (Some (with_quota q)) (option_map with_quota (lookup (is_at (nat_cmp u)) es))) ((eq_by_cmp_equiv nat_cmp_total).symm t u)
+    ∙ sym (map.get-insert nat_cmp_total (service_of es).tenants t (with_quota q) u ∙ ap (cond (eq_by_cmp nat_cmp u t) (Some (with_quota q))) (get_service es u))))
+
+-- the quotas of these databases together
+abbrev quotas_in : List (ℕ × PrivateDatabase) → ℕ
+quotas_in es = sum_by (λ database. database.quota) (map_list (λ e. e.1) es)
+
+-- one database in front
+quotas_in-cons : (e : ℕ × PrivateDatabase) (es : List (ℕ × PrivateDatabase)) → quotas_in (e ∷ es) ≡ e.1.quota + quotas_in es
+quotas_in-cons e es = sum_by-cons (λ (database : PrivateDatabase). database.quota) e.1 (map_list (λ f. f.1) es)
+
+-- one database more, where its tenant is not there yet
+quotas_in-put : (es : List (ℕ × PrivateDatabase)) (t : ℕ) (d : PrivateDatabase) → is_some (find nat_cmp t es) ≡ false → quotas_in (put nat_cmp t d es) ≡ quotas_in es + d.quota
+quotas_in-put [] t d none = quotas_in-cons (t, d) [] ∙ omega arith
+quotas_in-put (e ∷ es) t d none =
+    elim (nat_cmp t e.0) as (λ o. is_some (cond (is_eq o) (Some e.1) (find nat_cmp t es)) ≡ false → quotas_in (by_order o ((t, d) ∷ e ∷ es) ((e.0, d) ∷ es) (e ∷ put nat_cmp t d es)) ≡ quotas_in (e ∷ es) + d.quota) [
+      | Less ↦ λ h. omega (arith, quotas_in-cons (t, d) (e ∷ es))
+      | Equal ↦ λ h. absurd (cc)
+      | Greater ↦ λ h. omega (arith, quotas_in-cons e es, quotas_in-cons e (put nat_cmp t d es), quotas_in-put es t d h)
+    ] none
+
+-- one tenant more adds the quota
+pub quota_total-with_tenant : (s : Service) (t q : ℕ) → map.contains_key s.tenants t ≡ false → quota_total (with_tenant s t q) ≡ quota_total s + q
+unfolding quota_total
+quota_total-with_tenant s t q none =
+    let absent : is_some (find nat_cmp t (map.entries s.tenants)) ≡ false = sym (ap is_some (map.get-entries s.tenants t)) ∙ none in
+    ap quotas_in (map.entries-insert nat_cmp_total s.tenants t (with_quota q)) ∙ quotas_in-put (map.entries s.tenants) t (with_quota q) absent
+
+-- no quotas make the empty service, which has no sum
+pub service_of_nothing : service_of [] ≡ empty_service
+unfolding empty_service
+service_of_nothing = refl
+
+pub quota_total_of_nothing : quota_total (service_of []) ≡ 0
+unfolding quota_total
+quota_total_of_nothing =
+    let none : map.entries (map.empty {K = ℕ} {X = PrivateDatabase} {R = nat_cmp}) ≡ [] = nil_from_length _ (sym (map.len-entries _) ∙ map.len-empty nat_cmp PrivateDatabase) in
+    ap quotas_in none
+
+-- what a step that is known gives
+stepped : (s : Service) (request : Request) (made : Stepped) → step s request ≡ made → IsStepped s request made.reply made.next
+stepped s request made e = record { reply_is = sym (ap (λ m. m.reply) e); next_is = sym (ap (λ m. m.next) e) }
+
+-- the step where the tenant is not there
+abbrev where_absent : Service → ℕ → ℕ → Stepped
+where_absent s t q = cond (nat_lt 1048576 (quota_total s + q)) (refused s QuotasTooLarge) (accepted (with_tenant s t q))
+
+-- a tenant that is there is refused
+pub exists_stepped : (s : Service) (t q : ℕ) → map.contains_key s.tenants t ≡ true → IsStepped s (Command (CreateTenant t q)) (Refused NameExists) s
+exists_stepped s t q there = stepped s (Command (CreateTenant t q)) (refused s NameExists) (ap (λ b. cond b (refused s NameExists) (where_absent s t q)) there)
+
+-- the command where the tenant is not there
+absent_step : (s : Service) (t q : ℕ) (large : Bool) → map.contains_key s.tenants t ≡ false → nat_lt 1048576 (quota_total s + q) ≡ large → step s (Command (CreateTenant t q)) ≡ cond large (refused s QuotasTooLarge) (accepted (with_tenant s t q))
+absent_step s t q large absent test = ap (λ b. cond b (refused s NameExists) (where_absent s t q)) absent ∙ ap (λ b. cond b (refused s QuotasTooLarge) (accepted (with_tenant s t q))) test
+
+-- quotas that are too large together are refused
+pub too_large_stepped : (s : Service) (t q : ℕ) → map.contains_key s.tenants t ≡ false → 1048576 < quota_total s + q → IsStepped s (Command (CreateTenant t q)) (Refused QuotasTooLarge) s
+too_large_stepped s t q absent large = stepped s (Command (CreateTenant t q)) (refused s QuotasTooLarge) (absent_step s t q true absent (grind (arith, common_steps)))
+
+-- another tenant is made
+pub created_stepped : (s : Service) (t q : ℕ) → map.contains_key s.tenants t ≡ false → quota_total s + q ≤ 1048576 → IsStepped s (Command (CreateTenant t q)) (Text (codes "ok\n")) (with_tenant s t q)
+created_stepped s t q absent small = stepped s (Command (CreateTenant t q)) (accepted (with_tenant s t q)) (absent_step s t q false absent (grind (arith, common_steps)))

@@ -1,0 +1,45 @@
+//! foldsql: a database for many tenants, each with tables of its own. `foldsql run` reads lines from
+//! standard input and answers each on standard output before it reads the next. So far one line is
+//! served, the administrator's command that makes a tenant with a quota of rows.
+//!
+//! The program promises that the replies are those of the service as `mt_model` defines it, one line
+//! after another from the empty service on; that a line is answered whole or not at all, but for a
+//! reply that the output cuts off; that a line which finds no memory changes nothing; and that the
+//! status and the last line of the output say why a run stopped.
+#![tactic(auto)]
+
+mod command;
+mod create_tenant;
+mod status;
+mod tenants;
+#[cfg(test)]
+mod tests;
+
+use command::foldsql;
+use mt_hostio::{FolderMachine, StdinSource};
+use status::Status;
+use std::process::ExitCode;
+use std::rt::Env;
+use std::{env, io};
+
+const USAGE: &str = "usage: foldsql WORDS
+  run    answers the lines of standard input on standard output
+";
+
+// The words after the program's name. An error, as for a word that is not UTF-8, is to count as no words.
+fn words<R: Env + AllocGlobal>(rt: &R) -> io::Result<Vec<String>> {
+    Ok(env::args(rt)?.skip(1).collect(rt.alloc())?)
+}
+
+fn main(rt: HostRuntime) -> ExitCode {
+    let alloc = rt.alloc();
+    let words = words(&rt).unwrap_or(Vec::new(alloc));
+    let mut source = StdinSource::new(&rt);
+    let mut machine = FolderMachine::new(&rt);
+    let status = foldsql(&rt, alloc, &words, &mut source, &mut machine);
+    if status == Status::Words.code() {
+        // There is nobody to tell where this fails too.
+        let _ = rt.eprint(USAGE);
+    }
+    ExitCode::from(status)
+}

@@ -1,0 +1,11 @@
+//! The real outside: two files in the current folder, standard output and standard input, behind the
+//! traits of `mt_machine`. It promises that each fault is counted; of what a file holds or a terminal
+//! gets it tells nothing, since no contract can. This crate is the trusted edge of the database.
+#![tactic(auto)]
+
+mod files;
+mod folder_machine;
+mod stdin_source;
+
+pub use folder_machine::FolderMachine;
+pub use stdin_source::StdinSource;

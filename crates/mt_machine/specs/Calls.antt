@@ -1,0 +1,66 @@
+-- What each call on a machine or a source does, as a relation between what it stands for before and after.
+use Rattle.std.specs.Prelude.{◌≡◌, ◌≢◌, ℕ, ◌+◌, ◌<◌, ◌≤◌, IsTrue, IsErr, IfOk, OnOk, OnErr, List, [], ◌++◌, length, take, slice_index, Result}
+use Rattle.mt_machine.specs.declared.machine.Area.{Area}
+use Rattle.mt_machine.specs.Meaning.{Disk, Meaning, Supply, Rose}
+
+-- these bytes stand in the area from a position on
+abbrev pub Stand : Disk → Area → ℕ → List ℕ → Type 0
+Stand content area at bytes = (k : ℕ) → k < length bytes → content area (at + k) ≡ slice_index bytes k
+
+-- the contents are the same but for n bytes of one area
+pub record Torn (area : Area) (at n : ℕ) (old new : Disk) : Type 0 where
+  pub before : (k : ℕ) → k < at → new area k ≡ old area k
+  pub after : (k : ℕ) → at + n ≤ k → new area k ≡ old area k
+  pub other : (b : Area) → b ≢ area → new b ≡ old b
+
+-- a front of the bytes was put behind the output
+pub record PutsOutFront (bytes old new : List ℕ) : Type 0 where
+  pub front : List ℕ
+  pub rest : List ℕ
+  pub split : bytes ≡ front ++ rest
+  pub output : new ≡ old ++ front
+
+-- the count did not fall, and a failure has a fault behind it
+pub record HasCause {T E : Type 0} (before now : ℕ) (result : Result T E) : Type 0 where
+  pub no_lower : before ≤ now
+  pub failed : IsErr result → Rose before now
+
+pub record Reads {T E : Type 0} (result : Result T E) (area : Area) (at : ℕ) (buf : List ℕ) (old new : Meaning) : Type 0 where
+  pub told : IsTrue new.tells → IsTrue old.tells
+  pub content : IsTrue new.tells → new.content ≡ old.content
+  pub output : IsTrue new.tells → new.output ≡ old.output
+  pub bytes : OnOk result (IsTrue new.tells → Stand old.content area at buf)
+  pub cause : HasCause old.disk_faults new.disk_faults result
+  pub emit_faults : new.emit_faults ≡ old.emit_faults
+
+pub record Writes {T E : Type 0} (result : Result T E) (area : Area) (at : ℕ) (bytes : List ℕ) (old new : Meaning) : Type 0 where
+  pub told : IsTrue new.tells → IsTrue old.tells
+  pub outside : IsTrue new.tells → Torn area at (length bytes) old.content new.content
+  pub inside : OnOk result (IsTrue new.tells → Stand new.content area at bytes)
+  pub output : IsTrue new.tells → new.output ≡ old.output
+  pub cause : HasCause old.disk_faults new.disk_faults result
+  pub emit_faults : new.emit_faults ≡ old.emit_faults
+
+pub record Syncs {T E : Type 0} (result : Result T E) (old new : Meaning) : Type 0 where
+  pub told : IsTrue new.tells → IsTrue old.tells
+  pub content : IsTrue new.tells → new.content ≡ old.content
+  pub output : IsTrue new.tells → new.output ≡ old.output
+  pub cause : HasCause old.disk_faults new.disk_faults result
+  pub emit_faults : new.emit_faults ≡ old.emit_faults
+
+pub record Emits {T E : Type 0} (result : Result T E) (bytes : List ℕ) (old new : Meaning) : Type 0 where
+  pub told : IsTrue new.tells → IsTrue old.tells
+  pub content : IsTrue new.tells → new.content ≡ old.content
+  pub all : OnOk result (IsTrue new.tells → new.output ≡ old.output ++ bytes)
+  pub front : OnErr result (IsTrue new.tells → PutsOutFront bytes old.output new.output)
+  pub cause : HasCause old.emit_faults new.emit_faults result
+  pub disk_faults : new.disk_faults ≡ old.disk_faults
+
+pub record Takes {E : Type 0} (result : Result ℕ E) (buf : List ℕ) (old new : Supply) : Type 0 where
+  pub told : IsTrue new.tells → IsTrue old.tells
+  pub count : IfOk result (λ n. n ≤ length buf)
+  pub moved : IfOk result (λ n. IsTrue new.tells → old.left ≡ take n buf ++ new.left)
+  -- 0 comes only where nothing is left, and by the line above it comes wherever nothing is
+  pub end : IfOk result (λ n. n ≡ 0 → IsTrue new.tells → old.left ≡ [])
+  pub failed : OnErr result (IsTrue new.tells → new.left ≡ old.left)
+  pub cause : HasCause old.faults new.faults result

@@ -1,0 +1,25 @@
+-- What a machine and a source stand for.
+use Rattle.std.specs.Prelude.{ℕ, ◌+◌, ◌-◌, ◌^◌, ◌≤◌, Bool, List, min}
+use Rattle.mt_machine.specs.declared.machine.Area.{Area}
+
+-- the byte at each position of each area
+abbrev pub Disk : Type 0
+Disk = Area → ℕ → ℕ
+
+-- What a machine stands for. Content and output are known only where it tells them.
+pub record Meaning : Type 0 where
+  pub tells : Bool
+  pub content : Disk
+  pub output : List ℕ
+  pub disk_faults : ℕ
+  pub emit_faults : ℕ
+
+-- What a source stands for. The bytes still to come are known only where it tells them.
+pub record Supply : Type 0 where
+  pub tells : Bool
+  pub left : List ℕ
+  pub faults : ℕ
+
+-- A count of faults rose. It stands still at the last value of its type, which counts as risen.
+abbrev pub Rose : ℕ → ℕ → Type 0
+Rose before now = min (before + 1) (2 ^ 64 - 1) ≤ now

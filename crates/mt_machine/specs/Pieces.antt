@@ -1,0 +1,7 @@
+-- Bytes that come in pieces.
+use Rattle.std.specs.Prelude.{ℕ, List}
+
+-- the bytes still to come, and the length of the longest piece of them that is given at once
+pub record Pieces : Type 0 where
+  pub left : List ℕ
+  pub longest : ℕ

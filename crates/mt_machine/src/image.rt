@@ -1,0 +1,110 @@
+ghost use Rattle.std.specs.Prelude.{◌≡◌, ◌+◌, ◌-◌, ◌≤◌, ◌^◌, ◌++◌, length, take, replicate, vec_len, OnOk};
+ghost use Rattle.mt_machine.specs.Image.{IsFilled, IsWritten, ReadsAlike};
+
+use crate::front::put_front;
+use crate::{Area, Bytes};
+use std::alloc::AllocError;
+
+/// The two areas of a machine in memory. An area reads zero past its last byte.
+#[derive(Debug, Drop)]
+pub struct Image {
+    log: Vec<u8>,
+    pages: Vec<u8>,
+}
+
+impl Image {
+    ghost use Rattle.mt_machine.specs.Image.{area_of, image_disk};
+    ghost use Rattle.mt_machine.specs.Calls.{Stand, Torn};
+
+    pub fn new(log: Bytes, pages: Bytes) -> Image
+        ensures log { result.log.items ≡ log }
+        ensures pages { result.pages.items ≡ pages }
+    {
+        Image {
+            log: log.into_vec(),
+            pages: pages.into_vec(),
+        }
+    }
+
+    pub fn log(&self) -> &[u8]
+        ensures { result.now ≡ self.now.log.items }
+    {
+        &self.log
+    }
+
+    pub fn pages(&self) -> &[u8]
+        ensures { result.now ≡ self.now.pages.items }
+    {
+        &self.pages
+    }
+
+    pub fn read(&self, area: Area, at: u64, buf: &mut [u8])
+        ensures { Stand (image_disk self.now) area at buf.new }
+    {
+        let held = match area {
+            Area::Log => &self.log,
+            Area::Pages => &self.pages,
+        };
+        fill_from(held, at as usize, buf);
+    }
+
+    /// Writes the bytes, with zeros before them where the area ends before `at`. `AllocError` is
+    /// want of memory.
+    pub fn write(&mut self, area: Area, at: u64, bytes: &[u8]) -> Result<(), AllocError>
+        requires { at + length bytes.now ≤ 2 ^ 42 }
+        ensures outside { OnOk result (Torn area at (length bytes.now) (image_disk self.old) (image_disk self.new)) }
+        ensures inside { OnOk result (Stand (image_disk self.new) area at bytes.now) }
+    {
+        match area {
+            Area::Log => write_over(&mut self.log, at as usize, bytes),
+            Area::Pages => write_over(&mut self.pages, at as usize, bytes),
+        }
+    }
+}
+
+/// Fills `buf` with what is held from `at` on, and with zero past the end of it.
+fn fill_from(held: &[u8], at: usize, buf: &mut [u8])
+    ensures { IsFilled held.now at buf.new }
+{
+    let start = at.min(held.len());
+    let count = buf.len().min(held.len() - start);
+    put_front(buf, &held[start..start + count]);
+    clear_from(buf, count);
+}
+
+/// Writes zeros from `at` to the end.
+fn clear_from(buf: &mut [u8], at: usize)
+    requires { at ≤ length buf.old }
+    ensures { buf.new ≡ take at buf.old ++ replicate (length buf.old - at) 0 }
+{
+    buf[at..].fill(0);
+}
+
+/// Writes the bytes over what is held from `at` on, which grows where it is too short.
+fn write_over(held: &mut Vec<u8>, at: usize, bytes: &[u8]) -> Result<(), AllocError>
+    requires { at + length bytes.now ≤ 2 ^ 42 }
+    ensures { OnOk result (IsWritten held.old.items held.new.items at bytes.now) }
+{
+    grow(held, at + bytes.len())?;
+    put_at(held, at, bytes);
+    Ok(())
+}
+
+/// Makes what is held at least this long, by zeros at its end.
+fn grow(held: &mut Vec<u8>, end: usize) -> Result<(), AllocError>
+    ensures length { OnOk result (end ≤ vec_len held.new) }
+    ensures alike { OnOk result (ReadsAlike held.old.items held.new.items) }
+{
+    if held.len() < end {
+        held.resize(end, 0)?;
+    }
+    Ok(())
+}
+
+/// Writes the bytes over those from `at` on.
+fn put_at(held: &mut [u8], at: usize, bytes: &[u8])
+    requires { at + length bytes.now ≤ length held.old }
+    ensures { IsWritten held.old held.new at bytes.now }
+{
+    held[at..at + bytes.len()].copy_from_slice(bytes);
+}

@@ -1,0 +1,18 @@
+//! The lines of a script: cut from a source that gives its bytes in any pieces, and the texts that
+//! answer them. It promises that the lines come whole and in order however the source cuts its
+//! bytes, that bytes are asked for only while no whole line is held, and that a failed take loses
+//! nothing.
+#![tactic(auto)]
+
+mod blank;
+mod line;
+mod piece;
+mod reader;
+mod text;
+
+pub use blank::silent;
+pub use reader::{LineReader, ReadStop, Took};
+pub use text::code_text;
+
+#[cfg(test)]
+mod tests;

@@ -1,0 +1,169 @@
+use crate::{LineReader, ReadStop, Took, code_text, silent};
+use mt_machine::{Failed, Source};
+use mt_tree::Code;
+use std::alloc::{AllocError, Global};
+use std::test::Fail;
+
+/// Gives a text in pieces of one size, and fails once, at the take with a given number.
+#[derive(Drop)]
+struct Pieces<'a> {
+    left: &'a [u8],
+    size: usize,
+    before_fault: u64,
+    faults: u64,
+}
+
+impl<'a> Pieces<'a> {
+    fn new(text: &'a [u8], size: usize) -> Pieces<'a> {
+        Pieces {
+            left: text,
+            size,
+            before_fault: u64::MAX,
+            faults: 0,
+        }
+    }
+}
+
+impl Source for Pieces<'_> {
+    ghost use Rattle.std.specs.Prelude.{true};
+
+    ghost supply = { λ pieces. record { tells = true; left = pieces.left.now; faults = pieces.faults } };
+
+    fn take(&mut self, buf: &mut [u8]) -> Result<usize, Failed> {
+        if self.before_fault == 0 {
+            self.before_fault = u64::MAX;
+            self.faults = self.faults.saturating_add(1);
+            return Err(Failed);
+        }
+        self.before_fault -= 1;
+        let count = self.size.max(1).min(buf.len()).min(self.left.len());
+        buf[..count].copy_from_slice(&self.left[..count]);
+        self.left = &self.left[count..];
+        Ok(count)
+    }
+}
+
+/// Each answer of a reader until the end or a spent budget: a line as it is, and `|` behind each.
+fn answers(alloc: Global, budget: u64, source: &mut Pieces) -> Result<Vec<u8>, AllocError> {
+    let mut reader = LineReader::new(alloc, budget)?;
+    let mut told = Vec::new(alloc);
+    for _ in 0..100 {
+        match reader.next(source) {
+            Ok(Took::Line) => told.extend_from_slice(reader.line())?,
+            Ok(Took::TooLong) => told.extend_from_slice(b"TOO LONG")?,
+            Ok(Took::End) => break,
+            Err(ReadStop::Source) => told.extend_from_slice(b"FAULT")?,
+            Err(ReadStop::Budget) => {
+                told.extend_from_slice(b"BUDGET")?;
+                break;
+            }
+        }
+        told.push(b'|')?;
+    }
+    Ok(told)
+}
+
+#[test]
+fn cuts_lines(rt: HostRuntime) -> Result<(), Fail> {
+    let cases = [
+        ("a\n\nb\r\n--x\nlast", "a||b|--x|last|"),
+        ("a\rb\n", "a\rb|"),
+        ("a\r\r\nb\r", "a\r|b|"),
+        ("\n", "|"),
+        ("", ""),
+    ];
+    for (text, wanted) in cases {
+        for size in [1, 2, 7, 100] {
+            let mut source = Pieces::new(text.as_bytes(), size);
+            let told = answers(rt.alloc(), 1_000, &mut source)?;
+            assert_eq!(rt;
+                told.as_slice(),
+                wanted.as_bytes(),
+                "{text} in pieces of {size}"
+            );
+        }
+    }
+    Ok(())
+}
+
+#[test]
+fn skips_lines_too_long(rt: HostRuntime) -> Result<(), Fail> {
+    let cases = [
+        (65_536, "\nb\n", 65_536),
+        (65_535, "\r\nb\n", 65_535),
+        (65_536, "\r\nb\n", 8),
+        (65_537, "\nb\n", 8),
+        (200_000, "\nb\n", 8),
+    ];
+    for (count, behind, wanted) in cases {
+        let mut text = vec![in rt.alloc(); b'x'; count]?;
+        text.extend_from_slice(behind.as_bytes())?;
+        for size in [50_000, 1_000_000] {
+            let mut source = Pieces::new(text.as_slice(), size);
+            let told = answers(rt.alloc(), 1_000_000, &mut source)?;
+            let told = told.strip_suffix(b"|b|".as_slice()).ok_or("no next line")?;
+            assert_eq!(rt; told.len(), wanted, "{count} bytes in pieces of {size}");
+        }
+    }
+    Ok(())
+}
+
+#[test]
+fn keeps_to_its_budget(rt: HostRuntime) -> Result<(), Fail> {
+    let text = vec![in rt.alloc(); b'x'; 65]?;
+    let mut source = Pieces::new(text.as_slice(), 10);
+    let told = answers(rt.alloc(), 64, &mut source)?;
+    assert_eq!(rt; told.as_slice(), b"BUDGET".as_slice());
+    assert_eq!(rt; source.left.len(), 1);
+    Ok(())
+}
+
+#[test]
+fn loses_nothing_by_a_fault(rt: HostRuntime) -> Result<(), Fail> {
+    let cases = [
+        (0, "FAULT|ab|cd|"),
+        (1, "FAULT|ab|cd|"),
+        (2, "ab|FAULT|cd|"),
+        (3, "ab|cd|FAULT|"),
+    ];
+    for (before_fault, wanted) in cases {
+        let mut source = Pieces::new(b"ab\ncd\n", 2);
+        source.before_fault = before_fault;
+        let told = answers(rt.alloc(), 1_000, &mut source)?;
+        assert_eq!(rt;
+            told.as_slice(),
+            wanted.as_bytes(),
+            "a fault at take {before_fault}"
+        );
+    }
+    Ok(())
+}
+
+#[test]
+fn tells_silent_lines(rt: HostRuntime) {
+    let cases = [
+        ("", true),
+        (" ", true),
+        ("\t \t", true),
+        ("--", true),
+        ("--x", true),
+        (" --", false),
+        ("-", false),
+        ("x", false),
+    ];
+    for (line, wanted) in cases {
+        assert_eq!(rt; silent(line.as_bytes()), wanted, "{line}");
+    }
+}
+
+#[test]
+fn names_refusals(rt: HostRuntime) {
+    let cases = [
+        (Code::LineTooLong, "error E01 line too long\n"),
+        (Code::QuotaFull, "error E30 quota full\n"),
+        (Code::NoMemory, "error E90 no memory\n"),
+    ];
+    for (code, wanted) in cases {
+        assert_eq!(rt; code_text(code), wanted);
+    }
+}

@@ -1,0 +1,5 @@
+pub mod Insertion
+pub mod Laws
+pub mod Logic
+pub mod Order
+pub mod Sorted

@@ -1,0 +1,182 @@
+use crate::{
+    Cmp, Row, Rows, Str, StrFault, Truth, Value, and, compare, logic_is_symmetric, not, or,
+    orders_are_total, row_order, sort_rows, value_order,
+};
+use mt_list::List;
+use std::alloc::Global;
+use std::cmp::Ordering;
+use std::test::Fail;
+
+const TRUTHS: [Truth; 3] = [Truth::False, Truth::Unknown, Truth::True];
+
+const OPERATORS: [Cmp; 6] = [Cmp::Eq, Cmp::Ne, Cmp::Lt, Cmp::Le, Cmp::Gt, Cmp::Ge];
+
+#[test]
+fn joins_truths(rt: HostRuntime) {
+    logic_is_symmetric();
+    let ands = [
+        [Truth::False, Truth::False, Truth::False],
+        [Truth::False, Truth::Unknown, Truth::Unknown],
+        [Truth::False, Truth::Unknown, Truth::True],
+    ];
+    let ors = [
+        [Truth::False, Truth::Unknown, Truth::True],
+        [Truth::Unknown, Truth::Unknown, Truth::True],
+        [Truth::True, Truth::True, Truth::True],
+    ];
+    for (i, a) in TRUTHS.iter().enumerate() {
+        for (j, b) in TRUTHS.iter().enumerate() {
+            assert_eq!(rt; and(*a, *b), ands[i][j], "{a:?} AND {b:?}");
+            assert_eq!(rt; or(*a, *b), ors[i][j], "{a:?} OR {b:?}");
+        }
+    }
+    assert_eq!(rt; not(Truth::False), Truth::True);
+    assert_eq!(rt; not(Truth::Unknown), Truth::Unknown);
+    assert_eq!(rt; not(Truth::True), Truth::False);
+}
+
+const LESS: [Truth; 6] = [
+    Truth::False,
+    Truth::True,
+    Truth::True,
+    Truth::True,
+    Truth::False,
+    Truth::False,
+];
+
+const EQUAL: [Truth; 6] = [
+    Truth::True,
+    Truth::False,
+    Truth::False,
+    Truth::True,
+    Truth::False,
+    Truth::True,
+];
+
+const GREATER: [Truth; 6] = [
+    Truth::False,
+    Truth::True,
+    Truth::False,
+    Truth::False,
+    Truth::True,
+    Truth::True,
+];
+
+#[test]
+fn compares_numbers(rt: HostRuntime) {
+    let table = [
+        (-1, 0, LESS),
+        (i64::MIN, i64::MAX, LESS),
+        (7, 7, EQUAL),
+        (10, 9, GREATER),
+    ];
+    for (a, b, wanted) in table {
+        for (i, op) in OPERATORS.iter().enumerate() {
+            let answer = compare(*op, &Value::Int(a), &Value::Int(b));
+            assert_eq!(rt; answer, wanted[i], "{a} {op:?} {b}");
+        }
+    }
+}
+
+#[test]
+fn compares_texts(rt: HostRuntime) -> Result<(), Fail> {
+    let table = [
+        ("a", "b", LESS),
+        ("a", "aa", LESS),
+        ("aa", "b", LESS),
+        ("Zoë", "Zoë", EQUAL),
+        ("ë", "z", GREATER),
+    ];
+    for (a, b, wanted) in table {
+        let left = Value::Text(Str::from_bytes(rt.alloc(), a.as_bytes())?);
+        let right = Value::Text(Str::from_bytes(rt.alloc(), b.as_bytes())?);
+        for (i, op) in OPERATORS.iter().enumerate() {
+            assert_eq!(rt; compare(*op, &left, &right), wanted[i], "{a} {op:?} {b}");
+        }
+    }
+    Ok(())
+}
+
+#[test]
+fn compares_nulls(rt: HostRuntime) -> Result<(), Fail> {
+    let text = Value::Text(Str::from_bytes(rt.alloc(), b"a")?);
+    for op in OPERATORS {
+        assert_eq!(rt; compare(op, &Value::Null, &Value::Null), Truth::Unknown);
+        assert_eq!(rt; compare(op, &Value::Int(0), &Value::Null), Truth::Unknown);
+        assert_eq!(rt; compare(op, &Value::Null, &text), Truth::Unknown);
+    }
+    Ok(())
+}
+
+#[test]
+fn reads_texts(rt: HostRuntime) -> Result<(), Fail> {
+    let text = Str::from_bytes(rt.alloc(), "Zoë".as_bytes())?;
+    assert_eq!(rt; text.as_str(), "Zoë");
+    assert_eq!(rt; text.len(), 4);
+    let copied = text.copy()?;
+    assert_eq!(rt; copied, text);
+    assert_eq!(rt; copied.cmp(&text), Ordering::Equal);
+    for bytes in [b"\xff", b"\xc3"] {
+        assert_eq!(rt;
+            Str::from_bytes(rt.alloc(), bytes).err(),
+            Some(StrFault::NotUtf8)
+        );
+    }
+    Ok(())
+}
+
+/// A row of a number and a text, or of Nulls where they are left out.
+fn row(alloc: Global, number: Option<i64>, text: Option<&str>) -> Result<Row, StrFault> {
+    let mut values = List::new(alloc);
+    match number {
+        Some(number) => values.push(Value::Int(number))?,
+        None => values.push(Value::Null)?,
+    }
+    match text {
+        Some(text) => values.push(Value::Text(Str::from_bytes(alloc, text.as_bytes())?))?,
+        None => values.push(Value::Null)?,
+    }
+    Ok(values)
+}
+
+#[test]
+fn orders_values(rt: HostRuntime) -> Result<(), Fail> {
+    let number = Value::Int(i64::MAX);
+    let text = Value::Text(Str::from_bytes(rt.alloc(), b"")?);
+    assert_eq!(rt;
+        value_order(&Value::Null, &Value::Int(i64::MIN)),
+        Ordering::Less
+    );
+    assert_eq!(rt; value_order(&number, &text), Ordering::Less);
+    assert_eq!(rt; value_order(&text, &Value::Null), Ordering::Greater);
+    assert_eq!(rt; value_order(&Value::Null, &Value::Null), Ordering::Equal);
+    Ok(())
+}
+
+#[test]
+fn sorts_rows(rt: HostRuntime) -> Result<(), Fail> {
+    orders_are_total();
+    let in_order = [
+        (None, None),
+        (None, Some("b")),
+        (Some(-1), Some("a")),
+        (Some(-1), Some("aa")),
+        (Some(2), None),
+        (Some(2), Some("ë")),
+    ];
+    let mut wanted = List::new(rt.alloc());
+    let mut rows = List::new(rt.alloc());
+    for (k, (number, text)) in in_order.iter().enumerate() {
+        wanted.push(row(rt.alloc(), *number, *text)?)?;
+        let (number, text) = in_order[5 - k];
+        rows.push(row(rt.alloc(), number, text)?)?;
+    }
+    let sorted: Rows = sort_rows(rows.copy()?)?;
+    assert_eq!(rt; sorted.len(), 6);
+    for (a, b) in sorted.as_slice().iter().zip(wanted.as_slice()) {
+        assert_eq!(rt; a.as_slice(), b.as_slice());
+        assert_eq!(rt; a.len(), b.len());
+        assert_eq!(rt; row_order(a, b), Ordering::Equal);
+    }
+    Ok(())
+}
