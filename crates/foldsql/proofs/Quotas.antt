@@ -16,15 +16,24 @@ use Rattle.std.proofs.lemmas.List.Sums.{sum_by-cons}
 use Rattle.mt_tree.specs.declared.command.AdminCmd.TheVariants.{CreateTenant}
 use Rattle.mt_tree.specs.declared.code.Code.TheVariants.{NameExists, QuotasTooLarge}
 use Rattle.mt_tree.specs.declared.reply.Reply.TheVariants.{Text, Refused}
-use Rattle.mt_model.specs.Request.{Request, Command}
+use Rattle.mt_model.specs.Command.{applied, new_database}
+use Rattle.mt_model.specs.declared.database.PrivateDatabase.{PrivateDatabase}
 use Rattle.mt_model.specs.Run.{IsStepped}
-use Rattle.mt_model.specs.Service.{PrivateDatabase, Service, empty_service, quota_total}
-use Rattle.mt_model.specs.Step.{Stepped, step, refused, accepted, with_tenant}
-use Rattle.foldsql.specs.Tenants.{service_of, database_of}
+use Rattle.mt_model.specs.Service.{Service, empty_service, quota_total}
+use Rattle.mt_model.specs.Step.{Stepped, refused}
+use Rattle.foldsql.specs.Tenants.{service_of, database_of, create_step}
 
--- the database with this quota
+-- the database with this quota, where there is no table
 abbrev with_quota : ℕ → PrivateDatabase
-with_quota q = record { quota = q }
+with_quota q = new_database [] q
+
+-- the service with one tenant more
+abbrev with_tenant : List (ℕ × ℕ) → ℕ → ℕ → Service
+with_tenant es t q = applied (service_of es) (CreateTenant t q)
+
+-- the service of these tenants
+abbrev of_tenants : map.FinMap nat_cmp PrivateDatabase → Service
+of_tenants tenants = record { tables = []; tenants = tenants }
 
 -- a look-up among the databases is one among the quotas
 find_database : (es : List (ℕ × ℕ)) (t : ℕ) → find nat_cmp t (map_list database_of es) ≡ option_map with_quota (lookup (is_at (nat_cmp t)) es)
@@ -48,9 +57,9 @@ map_cond true q o = refl
 map_cond false q o = refl
 
 -- one quota more is one tenant more
-pub service_with : (es fs : List (ℕ × ℕ)) (t q : ℕ) → ((u : ℕ) → lookup (is_at (nat_cmp u)) fs ≡ cond (is_at (nat_cmp t) u) (Some q) (lookup (is_at (nat_cmp u)) es)) → service_of fs ≡ with_tenant (service_of es) t q
+pub service_with : (es fs : List (ℕ × ℕ)) (t q : ℕ) → ((u : ℕ) → lookup (is_at (nat_cmp u)) fs ≡ cond (is_at (nat_cmp t) u) (Some q) (lookup (is_at (nat_cmp u)) es)) → service_of fs ≡ with_tenant es t q
 service_with es fs t q updates =
-    ap (λ m. record { tenants = m }) (map.same_map nat_cmp_total map.nat_cmp-IsAntisymmetric _ _ (λ u.
+    ap of_tenants (map.same_map nat_cmp_total map.nat_cmp-IsAntisymmetric _ _ (λ u.
     get_service fs u ∙ ap (option_map with_quota) (updates u) ∙ map_cond (is_at (nat_cmp t) u) q _
     ∙ ap (λ b. cond b (Some (with_quota q)) (option_map with_quota (lookup (is_at (nat_cmp u)) es))) ((eq_by_cmp_equiv nat_cmp_total).symm t u)
     ∙ sym (map.get-insert nat_cmp_total (service_of es).tenants t (with_quota q) u ∙ ap (cond (eq_by_cmp nat_cmp u t) (Some (with_quota q))) (get_service es u))))
@@ -74,11 +83,12 @@ quotas_in-put (e ∷ es) t d none =
     ] none
 
 -- one tenant more adds the quota
-pub quota_total-with_tenant : (s : Service) (t q : ℕ) → map.contains_key s.tenants t ≡ false → quota_total (with_tenant s t q) ≡ quota_total s + q
+pub quota_total-with_tenant : (es : List (ℕ × ℕ)) (t q : ℕ) → map.contains_key (service_of es).tenants t ≡ false → quota_total (with_tenant es t q) ≡ quota_total (service_of es) + q
 unfolding quota_total
-quota_total-with_tenant s t q none =
-    let absent : is_some (find nat_cmp t (map.entries s.tenants)) ≡ false = sym (ap is_some (map.get-entries s.tenants t)) ∙ none in
-    ap quotas_in (map.entries-insert nat_cmp_total s.tenants t (with_quota q)) ∙ quotas_in-put (map.entries s.tenants) t (with_quota q) absent
+quota_total-with_tenant es t q none =
+    let tenants = (service_of es).tenants in
+    let absent : is_some (find nat_cmp t (map.entries tenants)) ≡ false = sym (ap is_some (map.get-entries tenants t)) ∙ none in
+    ap quotas_in (map.entries-insert nat_cmp_total tenants t (with_quota q)) ∙ quotas_in-put (map.entries tenants) t (with_quota q) absent
 
 -- no quotas make the empty service, which has no sum
 pub service_of_nothing : service_of [] ≡ empty_service
@@ -92,25 +102,31 @@ quota_total_of_nothing =
     ap quotas_in none
 
 -- what a step that is known gives
-stepped : (s : Service) (request : Request) (made : Stepped) → step s request ≡ made → IsStepped s request made.reply made.next
-stepped s request made e = record { reply_is = sym (ap (λ m. m.reply) e); next_is = sym (ap (λ m. m.next) e) }
+stepped : (found made : Stepped) → found ≡ made → IsStepped found made.reply made.next
+stepped found made e = record { reply_is = sym (ap (λ m. m.reply) e); next_is = sym (ap (λ m. m.next) e) }
+
+-- the tenant is made
+abbrev created : List (ℕ × ℕ) → ℕ → ℕ → Stepped
+created es t q = record { reply = Text (codes "ok\n"); next = with_tenant es t q }
 
 -- the step where the tenant is not there
-abbrev where_absent : Service → ℕ → ℕ → Stepped
-where_absent s t q = cond (nat_lt 1048576 (quota_total s + q)) (refused s QuotasTooLarge) (accepted (with_tenant s t q))
+abbrev where_absent : List (ℕ × ℕ) → ℕ → ℕ → Stepped
+where_absent es t q = cond (nat_lt 1048576 (quota_total (service_of es) + q)) (refused (service_of es) QuotasTooLarge) (created es t q)
 
 -- a tenant that is there is refused
-pub exists_stepped : (s : Service) (t q : ℕ) → map.contains_key s.tenants t ≡ true → IsStepped s (Command (CreateTenant t q)) (Refused NameExists) s
-exists_stepped s t q there = stepped s (Command (CreateTenant t q)) (refused s NameExists) (ap (λ b. cond b (refused s NameExists) (where_absent s t q)) there)
+pub exists_stepped : (es : List (ℕ × ℕ)) (t q : ℕ) → map.contains_key (service_of es).tenants t ≡ true → IsStepped (create_step t q es) (Refused NameExists) (service_of es)
+exists_stepped es t q there = stepped (create_step t q es) (refused (service_of es) NameExists) (ap (λ b. cond b (refused (service_of es) NameExists) (where_absent es t q)) there)
 
 -- the command where the tenant is not there
-absent_step : (s : Service) (t q : ℕ) (large : Bool) → map.contains_key s.tenants t ≡ false → nat_lt 1048576 (quota_total s + q) ≡ large → step s (Command (CreateTenant t q)) ≡ cond large (refused s QuotasTooLarge) (accepted (with_tenant s t q))
-absent_step s t q large absent test = ap (λ b. cond b (refused s NameExists) (where_absent s t q)) absent ∙ ap (λ b. cond b (refused s QuotasTooLarge) (accepted (with_tenant s t q))) test
+absent_step : (es : List (ℕ × ℕ)) (t q : ℕ) (large : Bool) → map.contains_key (service_of es).tenants t ≡ false → nat_lt 1048576 (quota_total (service_of es) + q) ≡ large → create_step t q es ≡ cond large (refused (service_of es) QuotasTooLarge) (created es t q)
+absent_step es t q large absent test =
+    ap (λ b. cond b (refused (service_of es) NameExists) (where_absent es t q)) absent
+    ∙ ap (λ b. cond b (refused (service_of es) QuotasTooLarge) (created es t q)) test
 
 -- quotas that are too large together are refused
-pub too_large_stepped : (s : Service) (t q : ℕ) → map.contains_key s.tenants t ≡ false → 1048576 < quota_total s + q → IsStepped s (Command (CreateTenant t q)) (Refused QuotasTooLarge) s
-too_large_stepped s t q absent large = stepped s (Command (CreateTenant t q)) (refused s QuotasTooLarge) (absent_step s t q true absent (grind (arith, common_steps)))
+pub too_large_stepped : (es : List (ℕ × ℕ)) (t q : ℕ) → map.contains_key (service_of es).tenants t ≡ false → 1048576 < quota_total (service_of es) + q → IsStepped (create_step t q es) (Refused QuotasTooLarge) (service_of es)
+too_large_stepped es t q absent large = stepped (create_step t q es) (refused (service_of es) QuotasTooLarge) (absent_step es t q true absent (grind (arith, common_steps)))
 
 -- another tenant is made
-pub created_stepped : (s : Service) (t q : ℕ) → map.contains_key s.tenants t ≡ false → quota_total s + q ≤ 1048576 → IsStepped s (Command (CreateTenant t q)) (Text (codes "ok\n")) (with_tenant s t q)
-created_stepped s t q absent small = stepped s (Command (CreateTenant t q)) (accepted (with_tenant s t q)) (absent_step s t q false absent (grind (arith, common_steps)))
+pub created_stepped : (es : List (ℕ × ℕ)) (t q : ℕ) → map.contains_key (service_of es).tenants t ≡ false → quota_total (service_of es) + q ≤ 1048576 → IsStepped (create_step t q es) (Text (codes "ok\n")) (with_tenant es t q)
+created_stepped es t q absent small = stepped (create_step t q es) (created es t q) (absent_step es t q false absent (grind (arith, common_steps)))

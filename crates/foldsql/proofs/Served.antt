@@ -5,12 +5,14 @@ use Rattle.std.proofs.lemmas.List.{append-nil, map-append}
 use Rattle.std.proofs.lemmas.List.Elements.{filter-append}
 use Rattle.mt_machine.specs.Meaning.{Meaning, Supply}
 use Rattle.mt_tree.specs.declared.reply.Reply.{Reply}
-use Rattle.mt_model.specs.Lines.{Line, cut, put_in_front, line_of, every_line, lines_of, ended_part, ended_lines_of, has_line_feed, is_answered}
-use Rattle.mt_model.specs.Service.{Service}
-use Rattle.mt_model.specs.Run.{replies_bytes}
+use Rattle.mt_script.specs.Lines.{Line, cut, put_in_front, line_of, every_line, lines_of, ended_part, ended_lines_of, has_line_feed, is_answered}
+use Rattle.mt_model.specs.Isolation.{service_rules, own_events, replies_to, private_replies}
+use Rattle.mt_model.specs.Request.{Request}
+use Rattle.mt_model.specs.Service.{Service, empty_service, view_of}
+use Rattle.mt_model.specs.Run.{Rules, IsRun, replies_bytes}
 use Rattle.foldsql.specs.declared.status.Status.{Status}
 use Rattle.foldsql.specs.declared.status.Status.TheVariants.{Done, Words, EmitFault, SourceFault, InputTooLong, NoMemory}
-use Rattle.foldsql.specs.Serves.{CoversInput, IsPrefixOf, IsPutOut, Serves, last_line}
+use Rattle.foldsql.specs.Serves.{CoversInput, IsPrefixOf, IsPutOut, Serves, ServesTenants, last_line}
 use Rattle.foldsql.specs.Turns.{IsPutOutForLines, AnswersInput, Finishes}
 
 -- the first piece takes the byte, where there is one
@@ -67,30 +69,31 @@ covered_first InputTooLong taken lines after covers = subst (λ ls. IsPrefixOf l
 covered_first NoMemory taken lines after covers = (lines_of taken, ap (λ ls. ls ++ lines_of taken) (sym covers.1))
 
 -- the last line goes behind what was put out for the lines
-put_out_last : (status : Status) (taken : List ℕ) (lines : List Line) (replies : List Reply) (last : Service) (after : Supply) (bytes : List ℕ) → CoversInput status taken lines after → IsPutOutForLines status taken lines replies last bytes → IsPutOut status taken lines replies last after (bytes ++ last_line status)
+put_out_last : (rules : Rules) (status : Status) (taken : List ℕ) (lines : List Line) (replies : List Reply) (last : Service) (after : Supply) (bytes : List ℕ) → CoversInput status taken lines after → IsPutOutForLines rules status taken lines replies last bytes → IsPutOut rules status taken lines replies last after (bytes ++ last_line status)
 unfolding last_line
-put_out_last Done taken lines replies last after bytes covers put = ap (λ b. b ++ []) put
-put_out_last Words taken lines replies last after bytes covers put = absurd covers
-put_out_last EmitFault taken lines replies last after bytes covers put = (put.0, append-nil bytes ∙ put.1, inl put.2)
-put_out_last SourceFault taken lines replies last after bytes covers put = ap (λ b. b ++ last_line SourceFault) put
-put_out_last InputTooLong taken lines replies last after bytes covers put = ap (λ b. b ++ last_line InputTooLong) put
-put_out_last NoMemory taken lines replies last after bytes covers put = ap (λ b. b ++ last_line NoMemory) put
+put_out_last rules Done taken lines replies last after bytes covers put = ap (λ b. b ++ []) put
+put_out_last rules Words taken lines replies last after bytes covers put = absurd covers
+put_out_last rules EmitFault taken lines replies last after bytes covers put = (put.0, append-nil bytes ∙ put.1, inl put.2)
+put_out_last rules SourceFault taken lines replies last after bytes covers put = ap (λ b. b ++ last_line SourceFault) put
+put_out_last rules InputTooLong taken lines replies last after bytes covers put = ap (λ b. b ++ last_line InputTooLong) put
+put_out_last rules NoMemory taken lines replies last after bytes covers put = ap (λ b. b ++ last_line NoMemory) put
 
 -- where the status has a last line, whole replies stand before it
-put_out_whole : (status : Status) (taken : List ℕ) (lines : List Line) (replies : List Reply) (last : Service) (bytes : List ℕ) → (last_line status ≡ [] → ⊥) → IsPutOutForLines status taken lines replies last bytes → bytes ≡ replies_bytes replies
+put_out_whole : (rules : Rules) (status : Status) (taken : List ℕ) (lines : List Line) (replies : List Reply) (last : Service) (bytes : List ℕ) → (last_line status ≡ [] → ⊥) → IsPutOutForLines rules status taken lines replies last bytes → bytes ≡ replies_bytes replies
 unfolding last_line
-put_out_whole Done taken lines replies last bytes some put = put
-put_out_whole Words taken lines replies last bytes some put = put
-put_out_whole EmitFault taken lines replies last bytes some put = absurd (some refl)
-put_out_whole SourceFault taken lines replies last bytes some put = put
-put_out_whole InputTooLong taken lines replies last bytes some put = put
-put_out_whole NoMemory taken lines replies last bytes some put = put
+put_out_whole rules Done taken lines replies last bytes some put = put
+put_out_whole rules Words taken lines replies last bytes some put = put
+put_out_whole rules EmitFault taken lines replies last bytes some put = absurd (some refl)
+put_out_whole rules SourceFault taken lines replies last bytes some put = put
+put_out_whole rules InputTooLong taken lines replies last bytes some put = put
+put_out_whole rules NoMemory taken lines replies last bytes some put = put
 
 -- the lines and the end make the whole run
-pub served : (status result : Status) (first now then : Meaning) (before after : Supply) → AnswersInput status first now before after → Finishes status result now then → (IsTrue then.tells → IsTrue now.tells) → Serves result first then before after
-served status result first now then before after a (inl says) told = subst (λ s. Serves s first then before after) (sym says.same) (record {
+pub served : (rules : Rules) (status result : Status) (first now then : Meaning) (before after : Supply) → AnswersInput rules status first now before after → Finishes status result now then → (IsTrue then.tells → IsTrue now.tells) → Serves rules result first then before after
+served rules status result first now then before after a (inl says) told = subst (λ s. Serves rules s first then before after) (sym says.same) (record {
   taken = a.taken;
   lines = a.lines;
+  requests = a.requests;
   replies = a.replies;
   last = a.last;
   input = a.input;
@@ -98,11 +101,12 @@ served status result first now then before after a (inl says) told = subst (λ s
   run = a.run;
   output = λ t.
       let put = a.output (told t) in
-      (put.0 ++ last_line status, says.output t ∙ ap (λ b. b ++ last_line status) put.1 ∙ append_assoc first.output put.0 (last_line status), put_out_last status a.taken a.lines a.replies a.last after put.0 a.covers put.2);
+      (put.0 ++ last_line status, says.output t ∙ ap (λ b. b ++ last_line status) put.1 ∙ append_assoc first.output put.0 (last_line status), put_out_last rules status a.taken a.lines a.replies a.last after put.0 a.covers put.2);
 })
-served status result first now then before after a (inr cuts) told = subst (λ s. Serves s first then before after) (sym cuts.fault) (record {
+served rules status result first now then before after a (inr cuts) told = subst (λ s. Serves rules s first then before after) (sym cuts.fault) (record {
   taken = a.taken;
   lines = a.lines;
+  requests = a.requests;
   replies = a.replies;
   last = a.last;
   input = a.input;
@@ -113,6 +117,19 @@ served status result first now then before after a (inr cuts) told = subst (λ s
       let cut = cuts.output t in (
         put.0 ++ cut.front,
         cut.output ∙ ap (λ b. b ++ cut.front) put.1 ∙ append_assoc first.output put.0 cut.front,
-        (cut.front, ap (λ b. b ++ cut.front) (put_out_whole status a.taken a.lines a.replies a.last put.0 cuts.some put.2), inr (record { status = status; covers = a.covers; cut = (cut.rest, cut.split) })),
+        (cut.front, ap (λ b. b ++ cut.front) (put_out_whole rules status a.taken a.lines a.replies a.last put.0 cuts.some put.2), inr (record { status = status; covers = a.covers; cut = (cut.rest, cut.split) })),
       );
 })
+
+-- each run of the service gives a tenant the replies of a private database
+abbrev Isolates : Type 0
+Isolates =
+    (first last : Service) (lines : List Line) (requests : List Request) (replies : List Reply) (tenant : ℕ) → IsRun service_rules first lines requests replies last
+    → replies_to tenant requests replies ≡ private_replies (view_of first tenant) (own_events tenant requests replies)
+
+-- a whole run of the service is one of its tenants
+pub tenants_served : (status : Status) (first then : Meaning) (before after : Supply) → Isolates → Serves service_rules status first then before after → ServesTenants status first then before after
+tenants_served status first then before after isolates whole = record {
+  served = whole;
+  isolated = λ tenant. isolates empty_service whole.last whole.lines whole.requests whole.replies tenant whole.run;
+}

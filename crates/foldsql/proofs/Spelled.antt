@@ -11,7 +11,7 @@ use Rattle.std.proofs.lemmas.Str.Parse.{numerals_by_value, tells_all_ascii_digit
 use Rattle.std.proofs.lemmas.List.{append-nil}
 use Rattle.std.proofs.Math.Seq.{take-append_seam, drop-append_seam}
 use Rattle.std.proofs.lemmas.List.Prefix.{front_rest}
-use Rattle.mt_model.specs.Request.{SpellsCreateTenant}
+use Rattle.mt_model.specs.FirstPath.{SpellsCreateTenant}
 
 -- the digits of a number pass the test of digits
 pub decimal_passes : (n : ℕ) → n < 2 ^ 32 → all_ascii_digits (decimal n) ≡ true

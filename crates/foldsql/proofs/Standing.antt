@@ -7,9 +7,10 @@ use Rattle.std.proofs.lemmas.List.Concat.{flat_map-cons}
 use Rattle.mt_machine.specs.Meaning.{Meaning, Supply}
 use Rattle.mt_tree.specs.declared.reply.Reply.{Reply}
 use Rattle.mt_tree.specs.Replies.{reply_bytes}
-use Rattle.mt_model.specs.Lines.{Line, TooLong, Text, every_line, lines_of, ended_part, ended_lines_of, has_line_feed, is_answered}
+use Rattle.mt_script.specs.Lines.{Line, TooLong, Text, every_line, lines_of, ended_part, ended_lines_of, has_line_feed, is_answered}
+use Rattle.mt_model.specs.Request.{Request}
 use Rattle.mt_model.specs.Service.{Service, empty_service}
-use Rattle.mt_model.specs.Run.{Answers, IsRun, replies_bytes}
+use Rattle.mt_model.specs.Run.{Rules, Answers, IsRun, replies_bytes}
 use Rattle.mt_script.specs.declared.reader.Took.{Took}
 use Rattle.mt_script.specs.declared.reader.Took.TheVariants as took
 use Rattle.mt_script.specs.declared.reader.ReadStop.{ReadStop}
@@ -41,23 +42,25 @@ pub record IsAtEnd (reading : Reading) (now : Supply) : Type 0 where
   pub within : 0 < reading.budget
 
 -- how far a run has come since these
-pub record Stands (first now : Meaning) (before after : Supply) (reading : Reading) (service : Service) : Type 0 where
+pub record Stands (rules : Rules) (first now : Meaning) (before after : Supply) (reading : Reading) (service : Service) : Type 0 where
   pub taken : List ℕ
   pub lines : List Line
+  pub requests : List Request
   pub replies : List Reply
   pub input : IsTrue after.tells → before.left ≡ taken ++ after.left
   pub budget : reading.budget + length taken ≡ 2 ^ 40
-  pub run : IsRun empty_service lines replies service
+  pub run : IsRun rules empty_service lines requests replies service
   pub output : IsTrue now.tells → now.output ≡ first.output ++ replies_bytes replies
   pub told : IsTrue now.tells → IsTrue first.tells
   pub pending : Pending taken lines reading
   pub at_end : reading.ended ≡ true → IsAtEnd reading after
 
 -- no turn was made
-pub stands_first : (machine : Meaning) (source : Supply) → Stands machine machine source source (fresh (2 ^ 40)) empty_service
-stands_first machine source = record {
+pub stands_first : (rules : Rules) (machine : Meaning) (source : Supply) → Stands rules machine machine source source (fresh (2 ^ 40)) empty_service
+stands_first rules machine source = record {
   taken = [];
   lines = [];
+  requests = [];
   replies = [];
   input = λ _. refl;
   budget = omega arith;
@@ -73,11 +76,11 @@ filter-first : {A : Type 0} (p : A → Bool) (x : A) (xs : List A) → filter p 
 filter-first p x xs = elim (p x) as (λ b. cond b (x ∷ filter p xs) (filter p xs) ≡ cond b (x ∷ []) [] ++ filter p xs) [ true ↦ refl | false ↦ refl ]
 
 -- a run goes on by one line at its end
-run_on : (first : Service) (lines : List Line) (replies : List Reply) (service : Service) (line : Line) (reply : Reply) (next : Service) → IsRun first lines replies service → Answers service line reply next → IsRun first (lines ++ line ∷ []) (replies ++ reply ∷ []) next
-run_on first [] [] service line reply next run answers = (next, subst (λ s. Answers s line reply next) run answers, refl)
-run_on first [] (r ∷ rs) service line reply next run answers = absurd run
-run_on first (l ∷ ls) [] service line reply next run answers = absurd run
-run_on first (l ∷ ls) (r ∷ rs) service line reply next (middle, one, others) answers = (middle, one, run_on middle ls rs service line reply next others answers)
+run_on : (rules : Rules) (first : Service) (lines : List Line) (requests : List Request) (replies : List Reply) (service : Service) (line : Line) (request : Request) (reply : Reply) (next : Service) →
+    IsRun rules first lines requests replies service → Answers rules service line request reply next → IsRun rules first (lines ++ line ∷ []) (requests ++ request ∷ []) (replies ++ reply ∷ []) next
+run_on rules first [] [] [] service line request reply next run answers = (next, subst (λ s. Answers rules s line request reply next) run answers, refl)
+run_on rules first (l ∷ ls) (q ∷ qs) (r ∷ rs) service line request reply next (middle, one, others) answers = (middle, one, run_on rules middle ls qs rs service line request reply next others answers)
+run_on rules first ls qs rs service line request reply next run answers = absurd run
 
 -- one reply more is put out
 bytes_on : (replies : List Reply) (reply : Reply) → replies_bytes (replies ++ reply ∷ []) ≡ replies_bytes replies ++ reply_bytes reply
@@ -127,7 +130,7 @@ ended_part_of_none : (bytes : List ℕ) → has_line_feed bytes ≡ false → en
 ended_part_of_none [] none = refl
 ended_part_of_none (b ∷ bs) none = ap (λ t. cond t (b ∷ ended_part bs) []) none
 
-module _ (first now then : Meaning) (before mid after : Supply) (reading further : Reading) (service next : Service) (s : Stands first now before mid reading service) (told : IsTrue then.tells → IsTrue now.tells) (result : Result Took ReadStop) (n : Nexts result reading further mid after) where
+module _ (rules : Rules) (first now then : Meaning) (before mid after : Supply) (reading further : Reading) (service next : Service) (s : Stands rules first now before mid reading service) (told : IsTrue then.tells → IsTrue now.tells) (result : Result Took ReadStop) (n : Nexts result reading further mid after) where
   -- what was taken before and in this turn stands in front of what is left
   input_on : IsTrue after.tells → before.left ≡ (s.taken ++ n.taken) ++ after.left
   input_on t = s.input (n.told t) ∙ ap (λ left. s.taken ++ left) (n.input t) ∙ sym (append_assoc s.taken n.taken after.left)
@@ -146,29 +149,31 @@ module _ (first now then : Meaning) (before mid after : Supply) (reading further
     lines_on = pending_on s.taken n.taken s.lines line reading further s.pending (λ o. (n.asks_no_more o).0) gives
 
     -- after a silent line the replies stand as before
-    passed_on : PassesOver line service next now then → Stands first then before after further next
+    passed_on : PassesOver line service next now then → Stands rules first then before after further next
     passed_on passes = record {
       taken = s.taken ++ n.taken;
       lines = s.lines;
+      requests = s.requests;
       replies = s.replies;
       input = input_on;
       budget = budget_on;
-      run = subst (λ last. IsRun empty_service s.lines s.replies last) (sym passes.service_stays) s.run;
-      output = λ t. ap (λ (m : Meaning). m.output) passes.machine_stays ∙ s.output (told t);
+      run = subst (λ last. IsRun rules empty_service s.lines s.requests s.replies last) (sym passes.service_stays) s.run;
+      output = λ t. passes.output t ∙ s.output (told t);
       told = λ t. s.told (told t);
       pending = subst (λ ls. Pending (s.taken ++ n.taken) ls further) (ap (λ b. s.lines ++ cond b (line ∷ []) []) passes.silent ∙ append-nil s.lines) lines_on;
       at_end = at_end_on;
     }
 
     -- an answered line and its reply are added
-    replied_on : PutsOutReply line service next now then → Stands first then before after further next
+    replied_on : PutsOutReply rules line service next now then → Stands rules first then before after further next
     replied_on puts = record {
       taken = s.taken ++ n.taken;
       lines = s.lines ++ line ∷ [];
+      requests = s.requests ++ puts.request ∷ [];
       replies = s.replies ++ puts.reply ∷ [];
       input = input_on;
       budget = budget_on;
-      run = run_on empty_service s.lines s.replies service line puts.reply next s.run puts.answers;
+      run = run_on rules empty_service s.lines s.requests s.replies service line puts.request puts.reply next s.run puts.answers;
       output = λ t. puts.output t ∙ ap (λ bytes. bytes ++ reply_bytes puts.reply) (s.output (told t)) ∙ append_assoc first.output (replies_bytes s.replies) (reply_bytes puts.reply) ∙ ap (λ bytes. first.output ++ bytes) (sym (bytes_on s.replies puts.reply));
       told = λ t. s.told (told t);
       pending = subst (λ ls. Pending (s.taken ++ n.taken) ls further) (ap (λ b. s.lines ++ cond b (line ∷ []) []) puts.answered) lines_on;
@@ -176,12 +181,13 @@ module _ (first now then : Meaning) (before mid after : Supply) (reading further
     }
 
     -- where the output fails, the lines before were answered
-    cut_off : CutsReply line service next now then → AnswersInput EmitFault first then before after
+    cut_off : CutsReply rules line service next now then → AnswersInput rules EmitFault first then before after
     cut_off cuts =
         let among = pending-prefix (s.taken ++ n.taken) (s.lines ++ line ∷ []) further (subst (λ ls. Pending (s.taken ++ n.taken) ls further) (ap (λ b. s.lines ++ cond b (line ∷ []) []) cuts.answered) lines_on) in
         record {
           taken = s.taken ++ n.taken;
           lines = s.lines;
+          requests = s.requests;
           replies = s.replies;
           last = service;
           input = input_on;
@@ -191,21 +197,22 @@ module _ (first now then : Meaning) (before mid after : Supply) (reading further
               let put = cuts.output t in (
                 replies_bytes s.replies ++ put.front,
                 put.output ∙ ap (λ bytes. bytes ++ put.front) (s.output (told t)) ∙ append_assoc first.output (replies_bytes s.replies) put.front,
-                (put.front, refl, record { line = line; reply = cuts.reply; next = next; answers = cuts.answers; among = among; cut = (put.rest, put.split) }),
+                (put.front, refl, record { line = line; request = cuts.request; reply = cuts.reply; next = next; answers = cuts.answers; among = among; cut = (put.rest, put.split) }),
               );
         }
 
   -- where the run ends with no reply, the output stands as before
-  stopped : (status : Status) → then ≡ now → CoversInput status (s.taken ++ n.taken) s.lines after → IsPutOutForLines status (s.taken ++ n.taken) s.lines s.replies service (replies_bytes s.replies) → AnswersInput status first then before after
+  stopped : (status : Status) → (IsTrue then.tells → then.output ≡ now.output) → CoversInput status (s.taken ++ n.taken) s.lines after → IsPutOutForLines rules status (s.taken ++ n.taken) s.lines s.replies service (replies_bytes s.replies) → AnswersInput rules status first then before after
   stopped status stays covers put = record {
     taken = s.taken ++ n.taken;
     lines = s.lines;
+    requests = s.requests;
     replies = s.replies;
     last = service;
     input = input_on;
     covers = covers;
     run = s.run;
-    output = λ t. (replies_bytes s.replies, ap (λ (m : Meaning). m.output) stays ∙ s.output (told t), put);
+    output = λ t. (replies_bytes s.replies, stays t ∙ s.output (told t), put);
   }
 
   -- the input has ended, and each line was answered
@@ -225,51 +232,52 @@ module _ (first now then : Meaning) (before mid after : Supply) (reading further
   taken_within : 0 < further.budget → length (s.taken ++ n.taken) < 2 ^ 40
   taken_within within = omega (arith, budget_on)
 
-  done : then ≡ now → reading.held ++ n.taken ≡ [] → further.ended ≡ true → AnswersInput Done first then before after
+  done : (IsTrue then.tells → then.output ≡ now.output) → reading.held ++ n.taken ≡ [] → further.ended ≡ true → AnswersInput rules Done first then before after
   done stays nothing ended = stopped Done stays (sym (all_answered nothing), taken_within ((at_end_on ended).within), (at_end_on ended).nothing) refl
 
-  source_failed : then ≡ now → HoldsBack (reading.held ++ n.taken) further → 0 < further.budget → AnswersInput SourceFault first then before after
+  source_failed : (IsTrue then.tells → then.output ≡ now.output) → HoldsBack (reading.held ++ n.taken) further → 0 < further.budget → AnswersInput rules SourceFault first then before after
   source_failed stays holds within = stopped SourceFault stays (sym (ended_answered holds), taken_within within) refl
 
-  too_long : then ≡ now → HoldsBack (reading.held ++ n.taken) further → further.budget ≡ 0 → AnswersInput InputTooLong first then before after
+  too_long : (IsTrue then.tells → then.output ≡ now.output) → HoldsBack (reading.held ++ n.taken) further → further.budget ≡ 0 → AnswersInput rules InputTooLong first then before after
   too_long stays holds used = stopped InputTooLong stays (sym (ended_answered holds), omega (arith, budget_on)) refl
 
-module _ (first now then : Meaning) (before mid after : Supply) (reading further : Reading) (service next : Service) (s : Stands first now before mid reading service) (told : IsTrue then.tells → IsTrue now.tells) where
-  goes_on : (result : Result Took ReadStop) → Nexts result reading further mid after → TurnOutcome result None further.line service next now then → Stands first then before after further next
-  goes_on (Ok took.Line) n (inl passes) = passed_on first now then before mid after reading further service next s told (Ok took.Line) n (Text further.line) n.outcome.0 passes
-  goes_on (Ok took.Line) n (inr puts) = replied_on first now then before mid after reading further service next s told (Ok took.Line) n (Text further.line) n.outcome.0 puts
-  goes_on (Ok took.TooLong) n (inl passes) = passed_on first now then before mid after reading further service next s told (Ok took.TooLong) n TooLong n.outcome passes
-  goes_on (Ok took.TooLong) n (inr puts) = replied_on first now then before mid after reading further service next s told (Ok took.TooLong) n TooLong n.outcome puts
+module _ (rules : Rules) (first now then : Meaning) (before mid after : Supply) (reading further : Reading) (service next : Service) (s : Stands rules first now before mid reading service) (told : IsTrue then.tells → IsTrue now.tells) where
+  goes_on : (result : Result Took ReadStop) → Nexts result reading further mid after → TurnOutcome rules result None further.line service next now then → Stands rules first then before after further next
+  goes_on (Ok took.Line) n (inl passes) = passed_on rules first now then before mid after reading further service next s told (Ok took.Line) n (Text further.line) n.outcome.0 passes
+  goes_on (Ok took.Line) n (inr puts) = replied_on rules first now then before mid after reading further service next s told (Ok took.Line) n (Text further.line) n.outcome.0 puts
+  goes_on (Ok took.TooLong) n (inl passes) = passed_on rules first now then before mid after reading further service next s told (Ok took.TooLong) n TooLong n.outcome passes
+  goes_on (Ok took.TooLong) n (inr puts) = replied_on rules first now then before mid after reading further service next s told (Ok took.TooLong) n TooLong n.outcome puts
   goes_on (Ok took.End) n (none, stays) = absurd (cc)
   goes_on (Err stop.Source) n (none, stays) = absurd (cc)
   goes_on (Err stop.Budget) n (none, stays) = absurd (cc)
 
-  ends : (result : Result Took ReadStop) (status : Status) → Nexts result reading further mid after → TurnOutcome result (Some status) further.line service next now then → AnswersInput status first then before after
-  ends (Ok took.Line) status n (fault, cuts) = subst (λ e. AnswersInput e first then before after) (sym fault) (cut_off first now then before mid after reading further service next s told (Ok took.Line) n (Text further.line) n.outcome.0 cuts)
-  ends (Ok took.TooLong) status n (fault, cuts) = subst (λ e. AnswersInput e first then before after) (sym fault) (cut_off first now then before mid after reading further service next s told (Ok took.TooLong) n TooLong n.outcome cuts)
+  ends : (result : Result Took ReadStop) (status : Status) → Nexts result reading further mid after → TurnOutcome rules result (Some status) further.line service next now then → AnswersInput rules status first then before after
+  ends (Ok took.Line) status n (fault, cuts) = subst (λ e. AnswersInput rules e first then before after) (sym fault) (cut_off rules first now then before mid after reading further service next s told (Ok took.Line) n (Text further.line) n.outcome.0 cuts)
+  ends (Ok took.TooLong) status n (fault, cuts) = subst (λ e. AnswersInput rules e first then before after) (sym fault) (cut_off rules first now then before mid after reading further service next s told (Ok took.TooLong) n TooLong n.outcome cuts)
   ends (Ok took.End) status n (is, stays) =
       let same : Done ≡ status = cc in
-      subst (λ e. AnswersInput e first then before after) same (done first now then before mid after reading further service next s told (Ok took.End) n stays n.outcome.0 n.outcome.2)
+      subst (λ e. AnswersInput rules e first then before after) same (done rules first now then before mid after reading further service next s told (Ok took.End) n stays n.outcome.0 n.outcome.2)
   ends (Err stop.Source) status n (is, stays) =
       let same : SourceFault ≡ status = cc in
-      subst (λ e. AnswersInput e first then before after) same (source_failed first now then before mid after reading further service next s told (Err stop.Source) n stays n.outcome.0 n.outcome.1)
+      subst (λ e. AnswersInput rules e first then before after) same (source_failed rules first now then before mid after reading further service next s told (Err stop.Source) n stays n.outcome.0 n.outcome.1)
   ends (Err stop.Budget) status n (is, stays) =
       let same : InputTooLong ≡ status = cc in
-      subst (λ e. AnswersInput e first then before after) same (too_long first now then before mid after reading further service next s told (Err stop.Budget) n stays n.outcome.0 n.outcome.1)
+      subst (λ e. AnswersInput rules e first then before after) same (too_long rules first now then before mid after reading further service next s told (Err stop.Budget) n stays n.outcome.0 n.outcome.1)
 
   -- a turn after which the run goes on
-  pub stands_on : Turns None reading further mid after service next now then → Stands first then before after further next
+  pub stands_on : Turns rules None reading further mid after service next now then → Stands rules first then before after further next
   stands_on turn = goes_on turn.took turn.nexts turn.outcome
 
   -- a turn with which the run ends
-  pub stands_last : (status : Status) → Turns (Some status) reading further mid after service next now then → AnswersInput status first then before after
+  pub stands_last : (status : Status) → Turns rules (Some status) reading further mid after service next now then → AnswersInput rules status first then before after
   stands_last status turn = ends turn.took status turn.nexts turn.outcome
 
 -- a run that had no memory to begin
-pub not_begun : (machine : Meaning) (source : Supply) → AnswersInput NoMemory machine machine source source
-not_begun machine source = record {
+pub not_begun : (rules : Rules) (machine : Meaning) (source : Supply) → AnswersInput rules NoMemory machine machine source source
+not_begun rules machine source = record {
   taken = [];
   lines = [];
+  requests = [];
   replies = [];
   last = empty_service;
   input = λ _. refl;

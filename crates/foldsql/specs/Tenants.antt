@@ -1,26 +1,36 @@
 -- The service that is kept as the quota of each tenant.
-use Rattle.std.specs.Prelude.{◌≡◌, ◌≤◌, ℕ, List, map as map_list, refl}
-use Rattle.std.specs.Coded.{Coded, code_by, coded_ℕ}
-use Rattle.std.specs.Ordering.{nat_cmp}
-use Rattle.std.specs.FinMap as map
-use Rattle.mt_model.specs.Service.{PrivateDatabase, Service, quota_total}
+use Rattle.std.specs.Prelude.{◌≡◌, ◌⊎◌, ◌≤◌, ℕ, List, [], map as map_list}
+use Rattle.std.specs.FinMap as finite
+use Rattle.mt_tree.specs.declared.command.AdminCmd.TheVariants.{CreateTenant}
+use Rattle.mt_tree.specs.declared.reply.Reply.{Reply}
+use Rattle.mt_grammar.specs.Reading.{Says}
+use Rattle.mt_model.specs.Command.{new_database}
+use Rattle.mt_model.specs.declared.database.PrivateDatabase.{PrivateDatabase}
+use Rattle.mt_model.specs.FirstPath.{first_path_step}
+use Rattle.mt_model.specs.Request.{Command}
+use Rattle.mt_model.specs.Run.{IsStepped, IsForgone}
+use Rattle.mt_model.specs.Service.{Service, quota_total}
+use Rattle.mt_model.specs.Step.{Stepped}
 
--- what a tenant with this quota has
+-- what a tenant with this quota has, where there is no table
 abbrev pub database_of : ℕ × ℕ → ℕ × PrivateDatabase
-database_of entry = (entry.0, record { quota = entry.1 })
+database_of entry = (entry.0, new_database [] entry.1)
 
--- the service of these tenants with their quotas
+-- the service of these tenants with their quotas, without a table
 abbrev pub service_of : List (ℕ × ℕ) → Service
-service_of quotas = record { tenants = map.from_entries (map_list database_of quotas) }
+service_of quotas = record { tables = []; tenants = finite.from_entries (map_list database_of quotas) }
 
 -- the sum is that of all quotas, and no larger than it may be
 pub record IsTotal (quotas : List (ℕ × ℕ)) (total : ℕ) : Type 0 where
   pub sum : total ≡ quota_total (service_of quotas)
   pub upto : total ≤ 1048576
 
--- a database is stored as its quota, and the service as its map
-abbrev pub database_code : Coded PrivateDatabase
-database_code = code_by ℕ coded_ℕ (λ d. d.quota) (λ q. record { quota = q }) (λ _. refl)
+-- what the command that makes a tenant does, and what it is answered
+abbrev pub create_step : ℕ → ℕ → List (ℕ × ℕ) → Stepped
+create_step tenant quota quotas = first_path_step (service_of quotas) (Command (Says (CreateTenant tenant quota)))
 
-abbrev pub service_code : Coded Service
-service_code = code_by (map.FinMap nat_cmp PrivateDatabase) (map.code coded_ℕ database_code) (λ s. s.tenants) (λ m. record { tenants = m }) (λ _. refl)
+-- the command is done, or answered for want of memory
+abbrev pub Creates : ℕ → ℕ → List (ℕ × ℕ) → Reply → List (ℕ × ℕ) → Type 0
+Creates tenant quota quotas reply next =
+    IsStepped (create_step tenant quota quotas) reply (service_of next)
+    ⊎ IsForgone (service_of quotas) (create_step tenant quota quotas) reply (service_of next)

@@ -1,13 +1,9 @@
 ghost use Rattle.std.specs.Prelude.{◌≡◌, ℕ, ◌<◌, ◌≤◌, ◌^◌, ◌↔◌, IsTrue, ◌++◌, List, [], IfSome, IfNone, IsSomeAnd, decimal, take_while};
 ghost use Rattle.std.specs.Char.{is_ascii_digit};
 ghost use Rattle.std.specs.List.{prefix_len};
-ghost use Rattle.std.specs.Str.Parse.{digits_value, without_leading_plus};
-ghost use Rattle.mt_model.specs.Lines.{Text};
-ghost use Rattle.mt_model.specs.Request.{IsRequest, Command, Unserved};
+ghost use Rattle.mt_model.specs.FirstPath.{SpellsCreateTenant};
 
-use itoa::Buffer;
-use mt_tree::AdminCmd;
-use std::str::from_utf8;
+use mt_script::read_number;
 
 // One more than the greatest name of a tenant.
 const TENANT_END: u64 = 1 << 32;
@@ -15,17 +11,18 @@ const TENANT_END: u64 = 1 << 32;
 // The greatest number of rows that a tenant may be given.
 const QUOTA_MAX: u64 = 65_536;
 
-// The command that a line says, in the one form that is served so far; None where it has not that form.
-pub(crate) fn create_tenant(line: &[u8]) -> Option<AdminCmd>
-    ensures found { IfSome result (λ command. IsRequest (Text line.now) (Command command)) }
-    ensures none { IfNone result (IsRequest (Text line.now) Unserved) }
+// The tenant and the quota of the command that a line says, in the one form that `run` serves; None
+// where it has not that form.
+pub(crate) fn create_tenant(line: &[u8]) -> Option<(u64, u64)>
+    ensures found { IfSome result (λ made. SpellsCreateTenant line.now made.0 made.1) }
+    ensures none { IfNone result ((tenant quota : ℕ) → SpellsCreateTenant line.now tenant quota → ⊥) }
 {
     let (tenant, behind) = number_after(line, b"@admin CREATE TENANT ")?;
     let (quota, rest) = number_after(behind, b" QUOTA ")?;
     if !is_allowed(tenant, quota) || !rest.is_empty() {
         return None;
     }
-    Some(AdminCmd::CreateTenant { tenant, quota })
+    Some((tenant, quota))
 }
 
 // Whether both numbers are inside their limits.
@@ -42,7 +39,7 @@ fn number_after<'a>(bytes: &'a [u8], words: &[u8]) -> Option<(u64, &'a [u8])>
 {
     let behind = bytes.strip_prefix(words)?;
     let (digits, rest) = behind.split_at(digit_count(behind));
-    let number = value_of(digits)?;
+    let number = read_number(digits)?;
     Some((number, rest))
 }
 
@@ -54,28 +51,4 @@ fn digit_count(bytes: &[u8]) -> usize
         .iter()
         .take_while(|byte| byte.is_ascii_digit())
         .count()
-}
-
-// The number that these bytes spell in decimal without a leading zero.
-fn value_of(digits: &[u8]) -> Option<u64>
-    ensures found { IfSome result (λ n. digits.now ≡ decimal n) }
-    ensures taken { (n : ℕ) → n < 2 ^ 32 → digits.now ≡ decimal n → result ≡ Some n }
-{
-    let number = parsed(digits)?;
-    let mut buffer = Buffer::new();
-    if buffer.format(number).as_bytes() != digits {
-        return None;
-    }
-    Some(number)
-}
-
-// The number that these bytes spell in decimal; a sign and leading zeros may pass.
-fn parsed(digits: &[u8]) -> Option<u64>
-    ensures read { IfSome result (λ n. n ≡ digits_value 10 (without_leading_plus digits.now)) }
-    ensures taken { (n : ℕ) → n < 2 ^ 32 → digits.now ≡ decimal n → result ≡ Some n }
-{
-    match from_utf8(digits) {
-        Ok(text) => text.parse().ok(),
-        Err(_) => None,
-    }
 }

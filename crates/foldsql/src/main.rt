@@ -1,19 +1,25 @@
-//! foldsql: a database for many tenants, each with tables of its own. `foldsql run` reads lines from
-//! standard input and answers each on standard output before it reads the next. So far one line is
-//! served, the administrator's command that makes a tenant with a quota of rows.
+//! foldsql: a database for many tenants, each with tables of its own. The program reads lines from
+//! standard input and answers each on standard output before it reads the next. `foldsql run` serves
+//! one line so far, the administrator's command that makes a tenant with a quota of rows;
+//! `foldsql plain` serves tables, tenants and their rows, kept as plain lists in memory.
 //!
 //! The program promises that the replies are those of the service as `mt_model` defines it, one line
-//! after another from the empty service on; that a line is answered whole or not at all, but for a
-//! reply that the output cuts off; that a line which finds no memory changes nothing; and that the
-//! status and the last line of the output say why a run stopped.
+//! after another from the empty service on; that under `plain` no tenant learns of another; that a
+//! line is answered whole or not at all, but for a reply that the output cuts off; that a line which
+//! finds no memory changes nothing; and that the status and the last line of the output say why a
+//! run stopped.
 #![tactic(auto)]
 
 mod command;
 mod create_tenant;
+mod engine;
+mod plain;
+mod run;
 mod status;
 mod tenants;
 #[cfg(test)]
 mod tests;
+mod turn;
 
 use command::foldsql;
 use mt_hostio::{FolderMachine, StdinSource};
@@ -22,8 +28,9 @@ use std::process::ExitCode;
 use std::rt::Env;
 use std::{env, io};
 
-const USAGE: &str = "usage: foldsql WORDS
-  run    answers the lines of standard input on standard output
+const USAGE: &str = "usage: foldsql WORD
+  run      answers the lines of standard input on standard output; so far it makes tenants
+  plain    answers them with the whole service so far, kept as plain lists in memory
 ";
 
 // The words after the program's name. An error, as for a word that is not UTF-8, is to count as no words.

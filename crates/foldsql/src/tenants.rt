@@ -1,8 +1,8 @@
-ghost use Rattle.std.specs.Prelude.{◌≡◌, ◌⊎◌, ◌^◌, ◌<◌, ◌≤◌};
-ghost use Rattle.mt_model.specs.Lines.{Text};
+ghost use Rattle.std.specs.Prelude.{◌≡◌, ◌^◌, ◌<◌, ◌≤◌};
 
 use crate::create_tenant::create_tenant;
-use mt_tree::{AdminCmd, Code, Reply, ReplyText};
+use crate::engine::Engine;
+use mt_tree::{Code, Reply, ReplyText};
 use std::alloc::Global;
 use std::collections::BTreeMap;
 use std::marker::Model;
@@ -10,7 +10,8 @@ use std::marker::Model;
 // The most that all quotas together may be.
 const TOTAL_MAX: u64 = 1_048_576;
 
-/// The tenants and their quotas: the service as far as it is served yet.
+/// The tenants and their quotas: the service as far as `run` serves it. Contracts see the pairs of
+/// a tenant and its quota.
 #[derive(Drop)]
 pub(crate) struct Tenants {
     alloc: Global,
@@ -20,27 +21,44 @@ pub(crate) struct Tenants {
 }
 
 impl Model for Tenants {
-    ghost use Rattle.mt_model.specs.Service.{Service};
-    ghost use Rattle.foldsql.specs.Tenants.{service_code, service_of, IsTotal};
+    ghost use Rattle.std.specs.Prelude.{List, ℕ};
+    ghost use Rattle.foldsql.specs.Tenants.{IsTotal};
 
-    ghost Value = { Service };
+    ghost Value = { List (ℕ × ℕ) };
 
-    ghost coded = { service_code };
-
-    ghost view = { λ t. service_of t.quotas.entries };
+    ghost view = { λ t. t.quotas.entries };
 
     ghost invariant = { λ t. IsTotal t.quotas.entries t.total };
 }
 
+impl Engine for Tenants {
+    ghost use Rattle.std.specs.Prelude.{refl};
+    ghost use Rattle.mt_model.specs.FirstPath.{first_path};
+    ghost use Rattle.foldsql.specs.Tenants.{service_of};
+
+    ghost rules = { first_path };
+
+    ghost service = { service_of };
+
+    fn line(&mut self, line: &[u8]) -> Reply {
+        match create_tenant(line) {
+            Some((tenant, quota)) => self.create(tenant, quota),
+            None => Reply::Refused(Code::NotServed),
+        }
+    }
+
+    ghost says_too_long = { tt };
+
+    ghost refuses_too_long = { λ service. refl };
+}
+
 impl Tenants {
-    ghost use Rattle.mt_tree.specs.declared.command.AdminCmd.TheVariants.{CreateTenant};
     ghost use Rattle.mt_model.specs.Service.{empty_service};
-    ghost use Rattle.mt_model.specs.Request.{Command};
-    ghost use Rattle.mt_model.specs.Run.{Answers, IsStepped, IsForgone};
+    ghost use Rattle.foldsql.specs.Tenants.{service_of, Creates};
 
     // No tenant.
     pub(crate) fn new(alloc: Global) -> Tenants
-        ensures { result ≡ empty_service }
+        ensures { service_of result ≡ empty_service }
     {
         Tenants {
             alloc,
@@ -49,22 +67,12 @@ impl Tenants {
         }
     }
 
-    // Answers a line that is not too long. Want of memory is answered only in the place of a reply
-    // that may yield to it, and leaves the tenants as they are.
-    pub(crate) fn line(&mut self, line: &[u8]) -> Reply
-        ensures { Answers self.old (Text line.now) result self.new }
-    {
-        match create_tenant(line) {
-            Some(AdminCmd::CreateTenant { tenant, quota }) => self.create(tenant, quota),
-            None => Reply::Refused(Code::NotServed),
-        }
-    }
-
-    // Answers the command that makes a tenant with a quota.
+    // Answers the command that makes a tenant with a quota. Want of memory is answered only in the
+    // place of a reply that may yield to it, and leaves the tenants as they are.
     fn create(&mut self, tenant: u64, quota: u64) -> Reply
         requires tenant { tenant < 2 ^ 32 }
         requires quota { quota ≤ 65536 }
-        ensures { IsStepped self.old (Command (CreateTenant tenant quota)) result self.new ⊎ IsForgone self.old (Command (CreateTenant tenant quota)) result self.new }
+        ensures { Creates tenant quota self.old result self.new }
     {
         let tenant = tenant as u32;
         if self.quotas.contains_key(&tenant) {

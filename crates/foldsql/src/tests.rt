@@ -7,6 +7,8 @@ use std::alloc::{AllocError, Global};
 use std::test::Fail;
 use std::thread::Threads;
 
+mod plain;
+
 /// How many bytes a source in memory gives at a time.
 const PIECE: usize = 7;
 
@@ -14,22 +16,28 @@ fn bytes_of(alloc: Global, text: &[u8]) -> Result<Bytes, AllocError> {
     Ok(List::from_vec(Vec::from_slice(alloc, text)?))
 }
 
-/// Calls the program with the one word `run`.
-fn run<R: Threads + Sync, M: Machine, S: Source>(
+/// Calls the program with this one word.
+fn call<R: Threads + Sync, M: Machine, S: Source>(
     rt: &R,
     alloc: Global,
+    word: &str,
     source: &mut S,
     machine: &mut M,
 ) -> Result<u8, AllocError> {
-    let words = vec![in alloc; String::from_str(alloc, "run")?]?;
+    let words = vec![in alloc; String::from_str(alloc, word)?]?;
     Ok(foldsql(rt, alloc, &words, source, machine))
 }
 
 /// What a run over this input puts out, where no call fails.
-fn replies<R: Threads + Sync>(rt: &R, alloc: Global, input: &[u8]) -> Result<Vec<u8>, Fail> {
+fn replies<R: Threads + Sync>(
+    rt: &R,
+    alloc: Global,
+    word: &str,
+    input: &[u8],
+) -> Result<Vec<u8>, Fail> {
     let mut source = SteadySource::new(bytes_of(alloc, input)?, PIECE);
     let mut machine = SteadyMachine::new(alloc);
-    if run(rt, alloc, &mut source, &mut machine)? != 0 {
+    if call(rt, alloc, word, &mut source, &mut machine)? != 0 {
         return Err("the run did not end as it should".into());
     }
     Ok(Vec::from_slice(alloc, machine.output())?)
@@ -53,7 +61,7 @@ fn answers_lines(rt: HostRuntime) -> Result<(), Fail> {
         ),
     ];
     for (input, wanted) in cases {
-        let told = replies(&rt, rt.alloc(), input.as_bytes())?;
+        let told = replies(&rt, rt.alloc(), "run", input.as_bytes())?;
         assert_eq!(rt; told.as_slice(), wanted.as_bytes(), "{input}");
     }
     Ok(())
@@ -76,7 +84,7 @@ fn serves_one_form_alone(rt: HostRuntime) -> Result<(), Fail> {
         "@admin CREATE TENANT  QUOTA 1",
     ];
     for line in lines {
-        let told = replies(&rt, rt.alloc(), line.as_bytes())?;
+        let told = replies(&rt, rt.alloc(), "run", line.as_bytes())?;
         assert_eq!(rt;
             told.as_slice(),
             b"error E09 not served here\n".as_slice(),
@@ -97,7 +105,7 @@ fn adds_up_quotas(rt: HostRuntime) -> Result<(), Fail> {
     }
     input.extend_from_slice(b"@admin CREATE TENANT 16 QUOTA 1\n@admin CREATE TENANT 17 QUOTA 1\n")?;
     wanted.extend_from_slice(b"error E40 name exists\nerror E45 quotas too large\n")?;
-    let told = replies(&rt, rt.alloc(), &input)?;
+    let told = replies(&rt, rt.alloc(), "run", &input)?;
     assert_eq!(rt; told.as_slice(), wanted.as_slice());
     Ok(())
 }
@@ -125,7 +133,7 @@ fn bounds_lines(rt: HostRuntime) -> Result<(), Fail> {
     for (byte, count, wanted) in cases {
         let mut input = vec![in rt.alloc(); byte; count]?;
         input.extend_from_slice(b"\nnext\n")?;
-        let told = replies(&rt, rt.alloc(), &input)?;
+        let told = replies(&rt, rt.alloc(), "run", &input)?;
         assert_eq!(rt; told.as_slice(), wanted.as_bytes(), "{count} bytes {byte}");
     }
     Ok(())
@@ -159,7 +167,7 @@ fn ends_where_an_emit_fails(rt: HostRuntime) -> Result<(), Fail> {
         fails.push(CallKind::Emit, nth)?;
         let mut source = SteadySource::new(bytes_of(alloc, input)?, PIECE);
         let mut machine = MemMachine::new(alloc, fails);
-        let status = run(&rt, alloc, &mut source, &mut machine)?;
+        let status = call(&rt, alloc, "run", &mut source, &mut machine)?;
         let output = machine.output();
         assert_eq!(rt; status, 5, "emit {nth}");
         assert!(rt; wanted.starts_with(output), "emit {nth}");
@@ -180,7 +188,7 @@ fn ends_where_a_take_fails(rt: HostRuntime) -> Result<(), Fail> {
             fails,
         );
         let mut machine = SteadyMachine::new(alloc);
-        let status = run(&rt, alloc, &mut source, &mut machine)?;
+        let status = call(&rt, alloc, "run", &mut source, &mut machine)?;
         let mut wanted = Vec::new(alloc);
         for _ in 0..lines {
             wanted.extend_from_slice(b"error E09 not served here\n")?;

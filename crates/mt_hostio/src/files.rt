@@ -7,10 +7,16 @@ const LOG: &str = "fold.log";
 
 const PAGES: &str = "fold.pages";
 
+// How far the log grows at a time, bytes. A sync of bytes within a file's length is the cheap one:
+// the file system has no new length to make durable. The zeros read as what lies past the end.
+const LOG_STEP: [u8; 1 << 16] = [0; 1 << 16];
+
 // An open file of one area.
 #[derive(Drop)]
 struct AreaFile {
     file: File,
+    // The end of what the file held when it was opened and of all that was written to it since, bytes.
+    end: u64,
     // Something may have been written that no sync has made durable. A file that was just opened
     // counts as such: an earlier process may have left writes that are not on the disk yet.
     unsynced: bool,
@@ -21,10 +27,27 @@ impl AreaFile {
     fn open<R: Files<File = File>>(rt: &R, path: &str) -> io::Result<AreaFile> {
         let mut options = OpenOptions::new();
         let file = options.read(true).write(true).create(true).open(rt, path)?;
+        let end = file.metadata()?.len();
         Ok(AreaFile {
             file,
+            end,
             unsynced: true,
         })
+    }
+
+    fn write(&mut self, at: u64, bytes: &[u8]) -> io::Result<()> {
+        self.unsynced = true;
+        self.file.write_all_at(bytes, at)?;
+        self.end = self.end.max(at.saturating_add(bytes.len() as u64));
+        Ok(())
+    }
+
+    // Writes a step of zeros at the file's end where bytes up to `end` would pass it. Where there is
+    // no room for a step, there may be for the bytes.
+    fn make_room(&mut self, end: u64) {
+        if end > self.end {
+            let _ = self.write(self.end, &LOG_STEP);
+        }
     }
 
     fn sync(&mut self) -> io::Result<()> {
@@ -66,12 +89,13 @@ impl FolderFiles {
     }
 
     pub(crate) fn write(&mut self, area: Area, at: u64, bytes: &[u8]) -> io::Result<()> {
-        let area_file = match area {
-            Area::Log => &mut self.log,
-            Area::Pages => &mut self.pages,
-        };
-        area_file.unsynced = true;
-        area_file.file.write_all_at(bytes, at)
+        match area {
+            Area::Log => {
+                self.log.make_room(at.saturating_add(bytes.len() as u64));
+                self.log.write(at, bytes)
+            }
+            Area::Pages => self.pages.write(at, bytes),
+        }
     }
 
     pub(crate) fn sync(&mut self) -> io::Result<()> {

@@ -81,14 +81,21 @@ fn counted(outcome: io::Result<()>, faults: &mut u64) -> Result<(), Failed>
 
 impl<R: Files<File = File> + Print> Machine for FolderMachine<'_, R> {
     ghost use Rattle.std.specs.Prelude.{false, []};
+    ghost use Rattle.std.proofs.lemmas.Bool.{false≢true};
 
-    ghost meaning = { λ m. record { tells = false; content = λ _ _. 0; output = []; disk_faults = m.disk_faults; emit_faults = m.emit_faults } };
+    ghost meaning = { λ m. record { tells = false; content = λ _ _. 0; output = []; tells_moments = false; images = λ _. Unit {0}; clock = 0; since = λ _ _ _. Unit {0}; disk_faults = m.disk_faults; emit_faults = m.emit_faults } };
 
     ghost beneath = { λ _ _. Unit {0} };
 
     ghost beneath_itself = { λ _. tt };
 
     ghost beneath_both = { λ _ _ _ _ _. tt };
+
+    ghost content_is_image = { λ _ _. tt };
+
+    ghost counts_now = { λ _ _ _ _ _ _. tt };
+
+    ghost only_now = { λ _ _ _ told. absurd (false≢true told) };
 
     fn read(&mut self, area: Area, at: u64, buf: &mut [u8]) -> Result<(), Failed> {
         let outcome = read(self.rt, &mut self.files, area, at, buf);

@@ -9,3 +9,6 @@ mod stdin_source;
 
 pub use folder_machine::FolderMachine;
 pub use stdin_source::StdinSource;
+
+#[cfg(test)]
+mod tests;

@@ -1,4 +1,6 @@
-ghost use Rattle.std.specs.Prelude.{◌≡◌, ◌<◌, [], ◌∷◌, ◌++◌, length, slice_get, IsTrue, ◌↔◌, IfOk, OnOk, OnErr};
+ghost use Rattle.std.specs.Prelude.{◌≡◌, ◌<◌, [], ◌∷◌, ◌++◌, length, slice_get, slice_set, IsTrue, ◌↔◌, IfOk, OnOk, OnErr};
+ghost use Rattle.std.specs.Borrow.{sem, Lends};
+ghost use Rattle.mt_list.specs.contracts.list.List.{the_row};
 
 use crate::Duplicate;
 use std::alloc::{AllocError, Global};
@@ -70,6 +72,15 @@ impl<T> List<T> {
         ensures { slice_get self.now i ≡ Some result.now }
     {
         &self.items[i]
+    }
+
+    /// The member at `i`, to be changed in its place.
+    pub fn get_mut(&mut self, i: usize) -> &mut T
+        requires { i < length self.old }
+        ensures* writes_back { sem 𝓛 (Lends (the_row T.row) T.row self.entry result (λ w. slice_set self.old i w)) }
+        ensures value { slice_get self.old i ≡ Some result.now }
+    {
+        &mut self.items[i]
     }
 }
 

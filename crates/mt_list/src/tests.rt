@@ -15,6 +15,9 @@ fn bytes_are_listed(rt: HostRuntime) -> Result<(), Fail> {
     bytes.push(b'b')?;
     assert_eq!(rt; bytes.len(), 2);
     assert_eq!(rt; *bytes.get(1), b'b');
+    *bytes.get_mut(1) = b'c';
+    assert_eq!(rt; bytes.as_slice(), b"ac".as_slice());
+    *bytes.get_mut(1) = b'b';
     assert_eq!(rt; bytes.as_slice(), b"ab".as_slice());
     assert_eq!(rt;
         List::from_vec(bytes.into_vec()).as_slice(),

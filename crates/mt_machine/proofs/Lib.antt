@@ -1,2 +1,5 @@
-pub mod Halves
+pub mod Blank
+pub mod Fronts
+pub mod Moments
 pub mod Pieces
+pub mod Steps

@@ -1,5 +1,5 @@
 -- Two lists of bytes as a disk of two areas.
-use Rattle.std.specs.Prelude.{◌≡◌, ℕ, ◌+◌, ◌<◌, ◌≤◌, List, length, slice_index}
+use Rattle.std.specs.Prelude.{◌≡◌, ℕ, ◌+◌, ◌<◌, ◌≤◌, List, length, slice_index, Option, Some, None}
 use Rattle.mt_machine.specs.declared.machine.Area.{Area}
 use Rattle.mt_machine.specs.declared.machine.Area.TheVariants.{Log, Pages}
 use Rattle.mt_machine.specs.declared.image.Image.{Image}
@@ -21,6 +21,11 @@ blank_disk = λ _ _. 0
 -- the disk that an image stands for
 abbrev pub image_disk : Image → Disk
 image_disk image = disk_of image.log.items image.pages.items
+
+-- the disk at first, where this image was kept of it, or else the image now
+abbrev pub first_disk : Option Image → Image → Disk
+first_disk None image = image_disk image
+first_disk (Some kept) image = image_disk kept
 
 -- the buffer holds what a list holds from a position on, with zero past its end
 abbrev pub IsFilled : List ℕ → ℕ → List ℕ → Type 0

@@ -2,6 +2,11 @@ pub mod Calls
 pub mod Faults
 pub mod Image
 pub mod InMemory
+pub mod Leaves
+pub mod LeavesLaws
 pub mod Meaning
 pub mod Pieces
+pub mod Run
+pub mod RunLaws
 pub mod Schedule
+pub mod Stops

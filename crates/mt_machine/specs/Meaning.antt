@@ -6,11 +6,19 @@ use Rattle.mt_machine.specs.declared.machine.Area.{Area}
 abbrev pub Disk : Type 0
 Disk = Area → ℕ → ℕ
 
--- What a machine stands for. Content and output are known only where it tells them.
-pub record Meaning : Type 0 where
+-- What a machine stands for. Content and output are known only where it tells them; images and
+-- moments only where it tells moments.
+pub record Meaning : Type 1 where
   pub tells : Bool
   pub content : Disk
   pub output : List ℕ
+  pub tells_moments : Bool
+  -- what a stop now may leave
+  pub images : Disk → Type 0
+  -- the one clock of disk and output
+  pub clock : ℕ
+  -- what a stop at some moment since that time may have left, with what was put out by then
+  pub since : ℕ → Disk → List ℕ → Type 0
   pub disk_faults : ℕ
   pub emit_faults : ℕ
 

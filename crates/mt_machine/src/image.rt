@@ -1,9 +1,10 @@
-ghost use Rattle.std.specs.Prelude.{◌≡◌, ◌+◌, ◌-◌, ◌≤◌, ◌^◌, ◌++◌, length, take, replicate, vec_len, OnOk};
+ghost use Rattle.std.specs.Prelude.{◌≡◌, ◌+◌, ◌-◌, ◌≤◌, ◌^◌, ◌++◌, length, take, replicate, vec_len, OnOk, IfOk};
 ghost use Rattle.mt_machine.specs.Image.{IsFilled, IsWritten, ReadsAlike};
 
 use crate::front::put_front;
 use crate::{Area, Bytes};
-use std::alloc::AllocError;
+use mt_list::List;
+use std::alloc::{AllocError, Global};
 
 /// The two areas of a machine in memory. An area reads zero past its last byte.
 #[derive(Debug, Drop)]
@@ -14,7 +15,8 @@ pub struct Image {
 
 impl Image {
     ghost use Rattle.mt_machine.specs.Image.{area_of, image_disk};
-    ghost use Rattle.mt_machine.specs.Calls.{Stand, Torn};
+    ghost use Rattle.mt_machine.specs.Run.{with_bytes};
+    ghost use Rattle.mt_machine.specs.Calls.{Stand};
 
     pub fn new(log: Bytes, pages: Bytes) -> Image
         ensures log { result.log.items ≡ log }
@@ -38,6 +40,25 @@ impl Image {
         &self.pages
     }
 
+    /// The bytes of the two areas.
+    pub fn into_areas(self) -> (Bytes, Bytes)
+        ensures log { result.0 ≡ self.log.items }
+        ensures pages { result.1 ≡ self.pages.items }
+    {
+        let Image { log, pages } = self;
+        (List::from_vec(log), List::from_vec(pages))
+    }
+
+    /// An image of the same bytes. `AllocError` is want of memory.
+    pub fn copy(&self, alloc: Global) -> Result<Image, AllocError>
+        ensures { IfOk result (λ copied. image_disk copied ≡ image_disk self.now) }
+    {
+        Ok(Image {
+            log: Vec::from_slice(alloc, &self.log)?,
+            pages: Vec::from_slice(alloc, &self.pages)?,
+        })
+    }
+
     pub fn read(&self, area: Area, at: u64, buf: &mut [u8])
         ensures { Stand (image_disk self.now) area at buf.new }
     {
@@ -49,15 +70,23 @@ impl Image {
     }
 
     /// Writes the bytes, with zeros before them where the area ends before `at`. `AllocError` is
-    /// want of memory.
+    /// want of memory, as for a range that ends past the last address.
     pub fn write(&mut self, area: Area, at: u64, bytes: &[u8]) -> Result<(), AllocError>
-        requires { at + length bytes.now ≤ 2 ^ 42 }
-        ensures outside { OnOk result (Torn area at (length bytes.now) (image_disk self.old) (image_disk self.new)) }
-        ensures inside { OnOk result (Stand (image_disk self.new) area at bytes.now) }
+        ensures { OnOk result (image_disk self.new ≡ with_bytes area at bytes.now (image_disk self.old)) }
     {
         match area {
             Area::Log => write_over(&mut self.log, at as usize, bytes),
             Area::Pages => write_over(&mut self.pages, at as usize, bytes),
+        }
+    }
+
+    /// Writes so many copies of one byte, as `write` writes bytes.
+    pub fn fill(&mut self, area: Area, at: u64, count: usize, byte: u8) -> Result<(), AllocError>
+        ensures { OnOk result (image_disk self.new ≡ with_bytes area at (replicate count byte) (image_disk self.old)) }
+    {
+        match area {
+            Area::Log => fill_over(&mut self.log, at as usize, count, byte),
+            Area::Pages => fill_over(&mut self.pages, at as usize, count, byte),
         }
     }
 }
@@ -82,12 +111,28 @@ fn clear_from(buf: &mut [u8], at: usize)
 
 /// Writes the bytes over what is held from `at` on, which grows where it is too short.
 fn write_over(held: &mut Vec<u8>, at: usize, bytes: &[u8]) -> Result<(), AllocError>
-    requires { at + length bytes.now ≤ 2 ^ 42 }
     ensures { OnOk result (IsWritten held.old.items held.new.items at bytes.now) }
 {
-    grow(held, at + bytes.len())?;
+    grow(held, end_of(at, bytes.len())?)?;
     put_at(held, at, bytes);
     Ok(())
+}
+
+/// Writes so many copies of the byte over what is held from `at` on, which grows where it is too
+/// short.
+fn fill_over(held: &mut Vec<u8>, at: usize, count: usize, byte: u8) -> Result<(), AllocError>
+    ensures { OnOk result (IsWritten held.old.items held.new.items at (replicate count byte)) }
+{
+    grow(held, end_of(at, count)?)?;
+    fill_at(held, at, count, byte);
+    Ok(())
+}
+
+/// The end of a range. `AllocError` where no memory has so high an address.
+fn end_of(at: usize, count: usize) -> Result<usize, AllocError>
+    ensures { IfOk result (λ end. end ≡ at + count) }
+{
+    at.checked_add(count).ok_or(AllocError)
 }
 
 /// Makes what is held at least this long, by zeros at its end.
@@ -107,4 +152,12 @@ fn put_at(held: &mut [u8], at: usize, bytes: &[u8])
     ensures { IsWritten held.old held.new at bytes.now }
 {
     held[at..at + bytes.len()].copy_from_slice(bytes);
+}
+
+/// Writes so many copies of the byte over those from `at` on.
+fn fill_at(held: &mut [u8], at: usize, count: usize, byte: u8)
+    requires { at + count ≤ length held.old }
+    ensures { IsWritten held.old held.new at (replicate count byte) }
+{
+    held[at..at + count].fill(byte);
 }

@@ -1,6 +1,6 @@
-ghost use Rattle.std.specs.Prelude.{◌≡◌, ◌+◌, ◌≤◌, ◌^◌, length};
-ghost use Rattle.mt_machine.specs.Meaning.{Meaning};
-ghost use Rattle.mt_machine.specs.Calls.{Reads, Writes, Syncs, Emits};
+ghost use Rattle.std.specs.Prelude.{◌≡◌, ◌+◌, ◌≤◌, ◌^◌, ℕ, List, IsTrue, length};
+ghost use Rattle.mt_machine.specs.Meaning.{Disk, Meaning};
+ghost use Rattle.mt_machine.specs.Calls.{Before, Reads, Writes, Syncs, Emits};
 
 use thiserror::Error;
 
@@ -55,4 +55,15 @@ pub trait Machine {
 
     /// What holds of each of two stretches of calls holds of both together.
     ghost beneath_both: { (first second third : Self) → beneath first second → beneath second third → beneath first third };
+
+    /// The disk as it reads is one of its images.
+    ghost content_is_image: { (machine : Self) → IsTrue (meaning machine).tells_moments → (meaning machine).images (meaning machine).content };
+
+    /// What a stop now may leave is what a stop since any earlier time may have left.
+    ghost counts_now: { (machine : Self) (t : ℕ) (image : Disk) → IsTrue (meaning machine).tells_moments → t ≤ (meaning machine).clock
+        → (meaning machine).images image → (meaning machine).since t image (meaning machine).output };
+
+    /// Since now there is just now.
+    ghost only_now: { (machine : Self) (image : Disk) (out : List ℕ) → IsTrue (meaning machine).tells_moments
+        → (meaning machine).since (meaning machine).clock image out → Before (meaning machine) image out };
 }

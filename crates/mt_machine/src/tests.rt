@@ -1,6 +1,6 @@
 use crate::{
-    Area, Bytes, CallKind, FailList, Failed, Machine, MemMachine, MemSource, Source, SteadyMachine,
-    SteadySource,
+    Area, Bytes, CallKind, FailList, Failed, Fill, Machine, MemMachine, MemSource, QuietMachine,
+    Source, SteadyMachine, SteadySource,
 };
 use mt_list::List;
 use std::alloc::{AllocError, Global};
@@ -79,6 +79,18 @@ fn steady_machine_holds_what_is_written(rt: HostRuntime) -> Result<(), Fail> {
 }
 
 #[test]
+fn quiet_machine_holds_what_is_written(rt: HostRuntime) -> Result<(), Fail> {
+    let mut machine = QuietMachine::new(rt.alloc());
+    assert_eq!(rt; call_each(&mut machine), [false; 4]);
+    assert_eq!(rt; read_log(&mut machine)?, *b"\0abcd\0");
+    assert_eq!(rt; machine.log(), b"\0abcd".as_slice());
+    assert!(rt; machine.pages().is_empty());
+    assert_eq!(rt; machine.output(), b"out;".as_slice());
+    assert!(rt; machine.telling());
+    Ok(())
+}
+
+#[test]
 fn named_calls_fail(rt: HostRuntime) -> Result<(), Fail> {
     let alloc = rt.alloc();
     for kind in KINDS {
@@ -106,6 +118,71 @@ fn failed_calls_do_half(rt: HostRuntime) -> Result<(), Fail> {
     assert_eq!(rt; machine.pages(), b"p".as_slice());
     assert_eq!(rt; machine.output(), b"ou".as_slice());
     assert!(rt; machine.telling());
+    Ok(())
+}
+
+/// Eight calls, of which the third write and the second sync are to fail.
+fn run_of_calls(machine: &mut MemMachine) -> [bool; 8] {
+    let mut buf = [9; 2];
+    [
+        machine.write(Area::Log, 0, b"ab").is_err(),
+        machine.sync().is_err(),
+        machine.write(Area::Pages, 3, b"cd").is_err(),
+        machine.write(Area::Log, 1, b"wxyz").is_err(),
+        machine.sync().is_err(),
+        machine.emit(b"x").is_err(),
+        machine.sync().is_err(),
+        machine.read(Area::Log, 0, &mut buf).is_err(),
+    ]
+}
+
+/// What a stop within each of those calls leaves: the log, the pages and the output.
+fn stops(fill: Fill) -> [[&'static [u8]; 3]; 8] {
+    let last: [&'static [u8]; 3] = [b"awx", b"\0\0\0cd", b"x"];
+    match fill {
+        Fill::Kept => [
+            [b"ab", b"", b""],
+            [b"ab", b"", b""],
+            [b"ab", b"\0\0\0cd", b""],
+            [b"awx", b"\0\0\0cd", b""],
+            [b"awx", b"\0\0\0cd", b""],
+            [b"awx", b"\0\0\0cd", b""],
+            last,
+            last,
+        ],
+        Fill::Byte(_) => [
+            [b"##", b"", b""],
+            [b"##", b"", b""],
+            [b"ab", b"\0\0\0##", b""],
+            [b"a####", b"\0\0\0##", b""],
+            [b"a####", b"\0\0\0##", b""],
+            [b"a####", b"\0\0\0##", b""],
+            [b"a####", b"\0\0\0##", b"x"],
+            last,
+        ],
+    }
+}
+
+#[test]
+fn stops_leave_what_was_written(rt: HostRuntime) -> Result<(), Fail> {
+    let alloc = rt.alloc();
+    let mut fails = fail_list(alloc, CallKind::Write, 3)?;
+    fails.push(CallKind::Sync, 2)?;
+    let mut machine = MemMachine::new(alloc, fails);
+    assert_eq!(rt;
+        run_of_calls(&mut machine),
+        [false, false, false, true, true, false, false, false]
+    );
+    assert!(rt; machine.telling());
+    assert_eq!(rt; machine.calls(), 8);
+    for fill in [Fill::Kept, Fill::Byte(b'#')] {
+        for (i, stop) in stops(fill).iter().enumerate() {
+            let stopped = machine.stopped_in(i as u64 + 1, fill)?;
+            assert_eq!(rt; stopped.log.as_slice(), stop[0], "{fill:?} {i}");
+            assert_eq!(rt; stopped.pages.as_slice(), stop[1], "{fill:?} {i}");
+            assert_eq!(rt; stopped.out.as_slice(), stop[2], "{fill:?} {i}");
+        }
+    }
     Ok(())
 }
 

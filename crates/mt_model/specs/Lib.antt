@@ -1,6 +1,13 @@
-pub mod Lines
+pub mod Answer
+pub mod Command
+pub mod Database
+pub mod FirstPath
+pub mod Isolation
 pub mod Request
 pub mod Run
 pub mod Service
 pub mod Step
+pub mod Tables
+pub use Rattle.mt_script.specs.Lines
 pub use Rattle.mt_tree.specs.Replies
+pub mod Laws

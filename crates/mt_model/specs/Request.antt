@@ -1,32 +1,34 @@
 -- What a line says.
-use Rattle.std.specs.Prelude.{◌≡◌, ℕ, ◌^◌, ◌<◌, ◌≤◌, List, ◌++◌, codes, decimal}
+use Rattle.std.specs.Prelude.{ℕ, List}
+use Rattle.mt_tree.specs.declared.who.Who.{Who}
+use Rattle.mt_tree.specs.declared.who.Who.TheVariants.{Admin, Tenant}
+use Rattle.mt_tree.specs.declared.statement.SimpleStmt.{SimpleStmt}
 use Rattle.mt_tree.specs.declared.command.AdminCmd.{AdminCmd}
-use Rattle.mt_tree.specs.declared.command.AdminCmd.TheVariants.{CreateTenant}
-use Rattle.mt_model.specs.Lines as lines
-use Rattle.mt_model.specs.Lines.{Line}
+use Rattle.mt_grammar.specs.Forms.{Form}
+use Rattle.mt_grammar.specs.Reading.{IsSaid, Said}
+use Rattle.mt_grammar.specs.Simple.{SpellsStatement, IsInside, SpellsCommand, IsCommandInside}
+use Rattle.mt_script.specs.Lines as lines
+use Rattle.mt_script.specs.Lines.{Line}
+use Rattle.mt_script.specs.Tags.{HasTag}
 
 pub data Request : Type 0 where
-  -- the line is too long
-  TooLong : Request
-  -- the administrator's line says this command
-  Command : (command : AdminCmd) → Request
-  -- the line has none of the forms that are served
-  Unserved : Request
+  LineTooLong : Request
+  -- the line is not UTF-8, or has no tag
+  Unreadable : Request
+  Statement : (tenant : ℕ) (said : Said SimpleStmt) → Request
+  Command : (said : Said AdminCmd) → Request
 
--- The bytes spell the command `CREATE TENANT` in its one form: the words in this case, one space
--- between, the numbers in decimal without a leading zero and inside their limits.
-pub record SpellsCreateTenant (bytes : List ℕ) (tenant quota : ℕ) : Type 0 where
-  pub spelling : bytes ≡ codes "@admin CREATE TENANT " ++ decimal tenant ++ codes " QUOTA " ++ decimal quota
-  pub tenant_from : 1 ≤ tenant
-  pub tenant_upto : tenant < 2 ^ 32
-  pub quota_from : 1 ≤ quota
-  pub quota_upto : quota ≤ 65536
+-- the line has the tag, and the text behind it says this
+pub record IsSent {T : Type 0} (bytes : List ℕ) (who : Who) (form : Form T) (inside : T → Type 0) (said : Said T) : Type 0 where
+  pub text : List ℕ
+  pub tagged : HasTag bytes who text
+  pub says : IsSaid form inside text said
 
--- the line says this
+-- the line says this; each line says one thing
 abbrev pub IsRequest : Line → Request → Type 0
-IsRequest lines.TooLong TooLong = Unit {0}
-IsRequest lines.TooLong (Command command) = ⊥
-IsRequest lines.TooLong Unserved = ⊥
-IsRequest (lines.Text bytes) TooLong = ⊥
-IsRequest (lines.Text bytes) (Command (CreateTenant tenant quota)) = SpellsCreateTenant bytes tenant quota
-IsRequest (lines.Text bytes) Unserved = (tenant quota : ℕ) → SpellsCreateTenant bytes tenant quota → ⊥
+IsRequest lines.TooLong LineTooLong = Unit {0}
+IsRequest lines.TooLong request = ⊥
+IsRequest (lines.Text bytes) LineTooLong = ⊥
+IsRequest (lines.Text bytes) Unreadable = (who : Who) (text : List ℕ) → HasTag bytes who text → ⊥
+IsRequest (lines.Text bytes) (Statement tenant said) = IsSent bytes (Tenant tenant) SpellsStatement IsInside said
+IsRequest (lines.Text bytes) (Command said) = IsSent bytes Admin SpellsCommand IsCommandInside said

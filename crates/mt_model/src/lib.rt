@@ -1,4 +1,13 @@
 //! What the database promises: the service as a value, what a line says, what each request does to
-//! the service and is answered, and what a whole run is. Nothing here runs; the functions have empty
-//! bodies, and their contracts are the laws of these definitions.
+//! the service and is answered, what a whole run is, and what one tenant sees of it. Nothing here
+//! runs; the functions have empty bodies, and their contracts are the laws of these definitions.
 #![tactic(auto)]
+
+mod database;
+mod laws;
+
+pub use database::{Content, MarkedRow, PrivateDatabase, SavedContent, TableContent};
+pub use laws::{
+    each_line_says_one_thing, isolation, refused_lines_change_nothing, two_worlds,
+    unread_lines_need_no_service,
+};

@@ -3,7 +3,7 @@ use Rattle.std.proofs.Common.{◌≡◌, ℕ, zero, suc, ◌<◌, ◌≤◌, tru
 use Rattle.std.proofs.lemmas.List.{append-nil, take-append-drop}
 use Rattle.std.proofs.lemmas.Bool.{or_parts, or_from, or_right, cases_Bool, lt-ltb, le-ltb, eqb-true, false_from_ne_true}
 use Rattle.std.proofs.lemmas.List.Folds.{list_any-append}
-use Rattle.mt_model.specs.Lines.{TooLong, Text, put_in_front, cut, without_return, line_of, every_line, has_line_feed, ended_part}
+use Rattle.mt_script.specs.Lines.{TooLong, Text, put_in_front, cut, without_return, line_of, every_line, has_line_feed, ended_part}
 
 -- a line without line feed, a line feed and a rest
 pub cut-feed : (x rest : List ℕ) → has_line_feed x ≡ false → cut (x ++ 10 ∷ rest) ≡ x ∷ cut rest

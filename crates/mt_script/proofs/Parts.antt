@@ -5,7 +5,7 @@ use Rattle.std.proofs.Math.Seq.{take-add}
 use Rattle.std.proofs.lemmas.List.{take-append-drop, take_rest, take_all, take-take, get_or-drop, drop_more, length-drop, take_at, drop-take, drop-drop}
 use Rattle.std.proofs.lemmas.Bool.{or_from, eqb-true, cases_lt}
 use Rattle.memchr.specs.Find.{IsFirstByte, is_byte}
-use Rattle.mt_model.specs.Lines.{Text, line_of, has_line_feed}
+use Rattle.mt_script.specs.Lines.{Text, line_of, has_line_feed}
 use Rattle.mt_script.specs.Steps.{IsPlaced, IsFirstFeed, GivesFront}
 use Rattle.mt_script.proofs.Lines.{has_line_feed-append, has_line_feed-take, has_line_feed_nowhere, line_of-short, without_return-return, without_return-other}
 

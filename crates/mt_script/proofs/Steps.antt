@@ -3,7 +3,7 @@ use Rattle.std.proofs.Common.{◌≡◌, ℕ, ◌+◌, ◌-◌, ◌^◌, ◌<◌
 use Rattle.std.proofs.lemmas.List.{append-nil, take_all, drop_all, length-drop}
 use Rattle.std.proofs.lemmas.Bool.{or_parts, false≢true, cases_lt}
 use Rattle.mt_machine.specs.Meaning.{Supply}
-use Rattle.mt_model.specs.Lines.{Line, TooLong, Text, line_of, without_return, every_line, has_line_feed}
+use Rattle.mt_script.specs.Lines.{Line, TooLong, Text, line_of, without_return, every_line, has_line_feed}
 use Rattle.mt_script.specs.declared.reader.Took.{Took}
 use Rattle.mt_script.specs.declared.reader.Took.TheVariants as took
 use Rattle.mt_script.specs.declared.reader.ReadStop.{ReadStop}

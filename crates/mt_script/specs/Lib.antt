@@ -1,4 +1,6 @@
+pub mod Lines
 pub mod Reader
 pub mod Steps
-pub use Rattle.mt_model.specs.Lines
+pub mod TagLaws
+pub mod Tags
 pub use Rattle.mt_tree.specs.Replies

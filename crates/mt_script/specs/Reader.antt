@@ -1,7 +1,7 @@
 -- What a reader of lines stands for, and what its next line is.
 use Rattle.std.specs.Prelude.{◌≡◌, ◌⊎◌, ℕ, ◌+◌, ◌<◌, ◌≤◌, Bool, true, false, IsTrue, Result, Ok, Err, List, [], ◌∷◌, ◌++◌, length}
 use Rattle.mt_machine.specs.Meaning.{Supply, Rose}
-use Rattle.mt_model.specs.Lines.{Line, TooLong, Text, every_line, ended_part, has_line_feed}
+use Rattle.mt_script.specs.Lines.{Line, TooLong, Text, every_line, ended_part, has_line_feed}
 use Rattle.mt_script.specs.declared.reader.Took.{Took}
 use Rattle.mt_script.specs.declared.reader.Took.TheVariants as took
 use Rattle.mt_script.specs.declared.reader.ReadStop.{ReadStop}

@@ -1,7 +1,7 @@
 -- What the parts of a reader do on the way to its next line.
 use Rattle.std.specs.Prelude.{◌≡◌, ◌⊎◌, ℕ, ◌+◌, ◌<◌, ◌≤◌, true, false, IsTrue, if◌then◌else◌, Option, MatchOption, Result, Ok, Err, List, [], ◌∷◌, ◌++◌, length, take, drop, slice_range}
 use Rattle.mt_machine.specs.Meaning.{Supply, Rose}
-use Rattle.mt_model.specs.Lines.{TooLong, Text, line_of, every_line, ended_part, has_line_feed}
+use Rattle.mt_script.specs.Lines.{TooLong, Text, line_of, every_line, ended_part, has_line_feed}
 use Rattle.mt_script.specs.declared.reader.Took.{Took}
 use Rattle.mt_script.specs.declared.reader.Took.TheVariants as took
 use Rattle.mt_script.specs.declared.reader.ReadStop.{ReadStop}

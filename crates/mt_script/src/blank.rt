@@ -1,6 +1,6 @@
 ghost use Rattle.std.specs.Prelude.{◌≡◌};
 ghost use Rattle.std.specs.List.{list_all};
-ghost use Rattle.mt_model.specs.Lines.{is_silent, is_blank as is_blank_byte};
+ghost use Rattle.mt_script.specs.Lines.{is_silent, is_blank as is_blank_byte};
 
 /// Whether a line gets no reply: it has no bytes but spaces and tabs, or starts with `--`.
 pub fn silent(line: &[u8]) -> bool
@@ -16,7 +16,7 @@ fn all_blank(bytes: &[u8]) -> bool
     bytes.iter().all(|byte| is_blank(*byte))
 }
 
-fn is_blank(byte: u8) -> bool
+pub(crate) fn is_blank(byte: u8) -> bool
     ensures { result ≡ is_blank_byte byte }
 {
     byte == b' ' || byte == b'\t'

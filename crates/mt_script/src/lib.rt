@@ -6,12 +6,16 @@
 
 mod blank;
 mod line;
+mod number;
 mod piece;
 mod reader;
+mod tag;
 mod text;
 
 pub use blank::silent;
+pub use number::read_number;
 pub use reader::{LineReader, ReadStop, Took};
+pub use tag::{Tagged, split_tag, tags_are_determined};
 pub use text::code_text;
 
 #[cfg(test)]

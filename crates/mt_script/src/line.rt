@@ -1,5 +1,5 @@
 ghost use Rattle.std.specs.Prelude.{◌≡◌, ◌≤◌, length, false, take};
-ghost use Rattle.mt_model.specs.Lines.{has_line_feed};
+ghost use Rattle.mt_script.specs.Lines.{has_line_feed};
 ghost use Rattle.mt_script.specs.Steps.{FindsFeed, FindsEnd};
 
 use memchr::memchr;

@@ -63,7 +63,7 @@ impl Model for LineReader {
 
 impl LineReader {
     ghost use Rattle.std.specs.Prelude.{◌≤◌, length, false};
-    ghost use Rattle.mt_model.specs.Lines.{has_line_feed};
+    ghost use Rattle.mt_script.specs.Lines.{has_line_feed};
     ghost use Rattle.mt_script.specs.Reader.{fresh, Nexts};
     ghost use Rattle.mt_script.specs.Steps.{LooksFor, LetsGo, TakesOn, ComesOrStops};
 

@@ -1,6 +1,6 @@
-use crate::{LineReader, ReadStop, Took, code_text, silent};
+use crate::{LineReader, ReadStop, Tagged, Took, code_text, read_number, silent, split_tag};
 use mt_machine::{Failed, Source};
-use mt_tree::Code;
+use mt_tree::{Code, Who};
 use std::alloc::{AllocError, Global};
 use std::test::Fail;
 
@@ -165,5 +165,69 @@ fn names_refusals(rt: HostRuntime) {
     ];
     for (code, wanted) in cases {
         assert_eq!(rt; code_text(code), wanted);
+    }
+}
+
+#[test]
+fn splits_tags(rt: HostRuntime) {
+    let seventeen = Some(Tagged {
+        who: Who::Tenant(17),
+        from: 3,
+    });
+    let admin = Some(Tagged {
+        who: Who::Admin,
+        from: 6,
+    });
+    let last = Some(Tagged {
+        who: Who::Tenant(u32::MAX),
+        from: 11,
+    });
+    let cases = [
+        (b"@17 x".as_slice(), seventeen),
+        (b"@17".as_slice(), seventeen),
+        (b"@17\tx".as_slice(), seventeen),
+        (b"@4294967295".as_slice(), last),
+        (b"@admin".as_slice(), admin),
+    ];
+    for (line, wanted) in cases {
+        assert_eq!(rt; split_tag(line), wanted, "{line:?}");
+    }
+}
+
+#[test]
+fn finds_no_tag(rt: HostRuntime) {
+    let cases = [
+        b"@0".as_slice(),
+        b"@01".as_slice(),
+        b"@4294967296".as_slice(),
+        b"@17x".as_slice(),
+        b"@17;".as_slice(),
+        b"@17\rx".as_slice(),
+        b"@Admin".as_slice(),
+        b"@adminx".as_slice(),
+        b"17 x".as_slice(),
+        b"".as_slice(),
+        b" @17".as_slice(),
+        b"@17 \xff".as_slice(),
+    ];
+    for line in cases {
+        assert_eq!(rt; split_tag(line), None, "{line:?}");
+    }
+}
+
+#[test]
+fn reads_numbers(rt: HostRuntime) {
+    let cases = [
+        ("0", Some(0)),
+        ("17", Some(17)),
+        ("18446744073709551615", Some(u64::MAX)),
+        ("18446744073709551616", None),
+        ("017", None),
+        ("+17", None),
+        ("-1", None),
+        ("", None),
+    ];
+    for (digits, wanted) in cases {
+        assert_eq!(rt; read_number(digits.as_bytes()), wanted, "{digits}");
     }
 }

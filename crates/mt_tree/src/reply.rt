@@ -1,6 +1,9 @@
-ghost use Rattle.std.specs.Prelude.{◌≡◌, [], ◌++◌, IfOk, OnOk, OnErr};
+ghost use Rattle.std.specs.Prelude.{◌≡◌, [], ◌∷◌, ◌++◌, IfOk, IfNone, IfSome, OnOk, OnErr};
+ghost use Rattle.std.specs.Fmt.{decimal, signed_decimal};
+ghost use Rattle.mt_value.specs.Printed.{value_text, doubled};
 
 use crate::Code;
+use mt_value::Value;
 use std::alloc::{AllocError, Global};
 use std::marker::Model;
 
@@ -45,11 +48,66 @@ impl ReplyText {
         self.bytes.extend_from_slice(bytes)
     }
 
+    /// Adds a value as it is printed: `NULL`, a decimal number, or a text in single quotes with its
+    /// quotes doubled. `AllocError` is want of memory; a part of the value may then stand at the end.
+    pub fn push_value(&mut self, value: &Value) -> Result<(), AllocError>
+        ensures { OnOk result (self.new ≡ self.old ++ value_text value.now) }
+    {
+        match value {
+            Value::Null => self.push_bytes(b"NULL"),
+            Value::Int(number) => self.push_number(*number),
+            Value::Text(text) => self.push_quoted(text.as_str().as_bytes()),
+        }
+    }
+
+    /// Adds a count in decimal. `AllocError` is want of memory, and leaves the reply as it was.
+    pub fn push_count(&mut self, count: u64) -> Result<(), AllocError>
+        ensures ok { OnOk result (self.new ≡ self.old ++ decimal count) }
+        ensures err { OnErr result (self.new ≡ self.old) }
+    {
+        let mut digits = itoa::Buffer::new();
+        self.push_bytes(digits.format(count).as_bytes())
+    }
+
+    // Adds a number in decimal.
+    fn push_number(&mut self, number: i64) -> Result<(), AllocError>
+        ensures { OnOk result (self.new ≡ self.old ++ signed_decimal number) }
+    {
+        let mut digits = itoa::Buffer::new();
+        self.push_bytes(digits.format(number).as_bytes())
+    }
+
+    // Adds a text in single quotes: the pieces between its quotes, with each quote twice.
+    fn push_quoted(&mut self, text: &[u8]) -> Result<(), AllocError>
+        ensures { OnOk result (self.new ≡ self.old ++ 39 ∷ (doubled text.now ++ 39 ∷ [])) }
+    {
+        self.push_bytes(b"'")?;
+        let mut rest = text;
+        while let Some((front, behind)) = split_quote(rest) {
+            self.push_bytes(front)?;
+            self.push_bytes(b"''")?;
+            rest = behind;
+        }
+        self.push_bytes(rest)?;
+        self.push_bytes(b"'")
+    }
+
+    /// The bytes so far.
     pub fn as_bytes(&self) -> &[u8]
         ensures { result.now ≡ self.now }
     {
         self.bytes.as_slice()
     }
+}
+
+// What stands in front of the first quote, and what behind it. `None` where there is no quote.
+fn split_quote(bytes: &[u8]) -> Option<(&[u8], &[u8])>
+    ensures none { IfNone result (doubled bytes.now ≡ bytes.now) }
+    ensures parts { IfSome result (λ parts. bytes.now ≡ parts.0.now ++ 39 ∷ parts.1.now) }
+    ensures front { IfSome result (λ parts. doubled parts.0.now ≡ parts.0.now) }
+{
+    let at = memchr::memchr(b'\'', bytes)?;
+    Some((&bytes[..at], &bytes[at + 1..]))
 }
 
 /// The answer to one line.

@@ -1,7 +1,7 @@
 -- A line that spells the command has each of its parts.
 use Rattle.std.proofs.Common.{arith, rules, refl, ℕ, ◌<◌, ◌^◌, ◌++◌, [], codes, decimal}
 use Rattle.std.proofs.lemmas.Grind.{common_steps}
-use Rattle.mt_model.specs.Request.{SpellsCreateTenant}
+use Rattle.mt_model.specs.FirstPath.{SpellsCreateTenant}
 use Rattle.foldsql.proofs.Spelled.{spelled}
 use Rattle.foldsql.proofs.create_tenant.create_tenant.Goals as goal
 use Rattle.foldsql.proofs.create_tenant.create_tenant.Goals.{then-not-is_allowed-via-then-not-is_allowed, then-not-is_allowed-via-else-not-is_allowed+then-not-is_empty}

@@ -1,5 +1,5 @@
 -- The digits behind the words are the number's, where a number stands there.
-use Rattle.std.proofs.Common.{arith, None, Some}
+use Rattle.std.proofs.Common.{◌<◌, ◌^◌, arith, None, Some}
 use Rattle.std.specs.Char.{is_ascii_digit}
 use Rattle.std.proofs.lemmas.Grind.{common_steps}
 use Rattle.std.proofs.lemmas.Bool.Decides.{Decides-eqb}
@@ -24,10 +24,12 @@ pub returns-in_err-number-clause-taken : goal.returns-in_err-number-clause-taken
 returns-in_err-number-clause-taken c n rest small front e =
     let some = strip_prefix_is Decides-eqb c.args.bytes.now c.args.words.now (Some c.in_ok-behind.behind) c.in_ok-behind.ensures.cases in
     let parts = cut_number_behind c.args.bytes.now c.args.words.now c.in_ok-behind.behind.now some n rest small front e in
-    absurd (grind (arith, common_steps, c.in_err-number.ensures.taken n small))
+    let fits : n < 2 ^ 64 = omega arith in
+    absurd (grind (arith, common_steps, c.in_err-number.ensures.taken n fits))
 
 pub returns-clause-taken : goal.returns-clause-taken
 returns-clause-taken c n rest small front e =
     let some = strip_prefix_is Decides-eqb c.args.bytes.now c.args.words.now (Some c.in_ok-behind.behind) c.in_ok-behind.ensures.cases in
     let parts = cut_number_behind c.args.bytes.now c.args.words.now c.in_ok-behind.behind.now some n rest small front e in
-    grind (arith, common_steps, c.in_ok-number.ensures.taken n small)
+    let fits : n < 2 ^ 64 = omega arith in
+    grind (arith, common_steps, c.in_ok-number.ensures.taken n fits)

@@ -2,7 +2,7 @@ use Rattle.std.proofs.Common.{◌≡◌, ◌+◌, ℕ, List, ◌++◌, length, t
 use Rattle.std.proofs.lemmas.List.{length-drop}
 use Rattle.std.proofs.lemmas.Bool.{eqb-true}
 use Rattle.std.proofs.lemmas.Result.{err_from_is_err_and}
-use Rattle.mt_model.specs.Lines.{has_line_feed}
+use Rattle.mt_script.specs.Lines.{has_line_feed}
 use Rattle.mt_script.proofs.Lines.{has_line_feed-take}
 use Rattle.mt_script.proofs.Parts.{placed_front, held_front, held_short, written_over}
 use Rattle.mt_script.proofs.Steps.{TakesOn-nothing, TakesOn-piece, left_at_end}

@@ -1,5 +1,5 @@
 use Rattle.std.proofs.Common.{◌≡◌, List, ℕ, false, length, sym, ◌∙◌, ap, subst, arith}
-use Rattle.mt_model.specs.Lines.{has_line_feed}
+use Rattle.mt_script.specs.Lines.{has_line_feed}
 use Rattle.mt_script.specs.Reader.{Reading}
 use Rattle.mt_script.specs.Steps.{IsFirstFeed}
 use Rattle.mt_script.proofs.Steps.{GivesLine-feed, GivesLine-rest}

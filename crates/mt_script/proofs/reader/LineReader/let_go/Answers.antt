@@ -1,5 +1,5 @@
 use Rattle.std.proofs.Common.{◌+◌, ◌≤◌, sym, ◌∙◌, ap, refl, arith}
-use Rattle.mt_model.specs.Lines.{line_of}
+use Rattle.mt_script.specs.Lines.{line_of}
 use Rattle.mt_script.proofs.Parts.{slice_front, slice_behind, length-slice, lent_line}
 use Rattle.mt_script.proofs.reader.LineReader.let_go.Goals as goal
 

@@ -1,0 +1,10 @@
+pub mod Descent
+pub mod Forms
+pub mod Lexing
+pub mod Names
+pub mod Outcome
+pub mod Pieces
+pub mod Reading
+pub mod Shrinking
+pub mod Simple
+pub mod Taken

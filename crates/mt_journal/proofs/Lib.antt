@@ -1,0 +1,17 @@
+pub mod Leaving
+pub mod Torn
+pub mod Walks
+pub mod Behind
+pub mod Bodies
+pub mod Chains
+pub mod Committing
+pub mod Copies
+pub mod Emptying
+pub mod Faults
+pub mod Fills
+pub mod Heads
+pub mod Numbers
+pub mod Placing
+pub mod Recovering
+pub mod Replaying
+pub mod Spelled

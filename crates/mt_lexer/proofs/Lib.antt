@@ -1,0 +1,9 @@
+pub mod Runs
+pub mod Quotes
+pub mod Signs
+pub mod Reading
+pub mod Tiling
+pub mod Determined
+pub mod Examples
+pub mod Lowered
+pub mod Decided

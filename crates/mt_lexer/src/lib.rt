@@ -1,0 +1,17 @@
+//! The tokens of a statement or command: words, numbers, texts in quotes and symbols, the longest
+//! first, with spaces and tabs between them. It promises that the tokens are the text's, in order,
+//! and that a text is refused exactly where no token stands.
+#![tactic(auto)]
+
+mod laws;
+mod piece;
+mod scan;
+#[cfg(test)]
+mod tests;
+mod token;
+mod words;
+
+pub use laws::tokens_are_determined;
+pub use scan::{LexFault, tokens};
+pub use token::{Symbol, Token, TokenKind, Tokens};
+pub use words::is_word;

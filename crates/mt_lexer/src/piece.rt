@@ -1,0 +1,148 @@
+ghost use Rattle.std.specs.Prelude.{◌≡◌, ℕ, List, length, take, map, slice_index, IfSome, IfNone, IsTrue, ◌↔◌};
+ghost use Rattle.std.specs.List.{AllPass};
+ghost use Rattle.std.specs.Str.Parse.{digits_value};
+ghost use Rattle.mt_lexer.specs.Tokens.{Lexeme, Word, Number, Quoted, Sign, begins_word, is_in_word, is_digit, lower, symbol_bytes};
+ghost use Rattle.mt_lexer.specs.Reads.{IsWordRun, Reads, symbol_of};
+
+use crate::{Symbol, TokenKind};
+
+/// The longest word, in bytes.
+const WORD_LIMIT: usize = 30;
+
+const QUOTE: u8 = b'\'';
+
+/// Whether a word may begin with this byte.
+fn begins_word(byte: u8) -> bool
+    ensures { result ≡ begins_word byte }
+{
+    byte.is_ascii_alphabetic() || byte == b'_'
+}
+
+/// Whether this byte may stand in a word.
+fn is_in_word(byte: u8) -> bool
+    ensures { result ≡ is_in_word byte }
+{
+    begins_word(byte) || byte.is_ascii_digit()
+}
+
+/// The byte at a place, or 0 past the end.
+fn byte_at(rest: &[u8], at: usize) -> u8
+    ensures { result ≡ slice_index rest.now at }
+{
+    rest.get(at).copied().unwrap_or(0)
+}
+
+/// How many bytes that may stand in a word these begin with.
+fn run_len(rest: &[u8]) -> usize
+    ensures { IsWordRun rest.now result }
+{
+    for (len, byte) in rest.iter().enumerate() {
+        if !is_in_word(*byte) {
+            return len;
+        }
+    }
+    rest.len()
+}
+
+/// The length of the word that these bytes begin with.
+pub fn word_len(rest: &[u8]) -> Option<usize>
+    ensures some { IfSome result (λ n. Reads rest.now n (Word (map lower (take n rest.now)))) }
+    ensures none { IfNone result ((n : ℕ) (name : List ℕ) → Reads rest.now n (Word name) → ⊥) }
+{
+    let len = run_len(rest);
+    if len > 0 && len <= WORD_LIMIT && begins_word(rest[0]) {
+        Some(len)
+    } else {
+        None
+    }
+}
+
+/// Whether each byte is a digit.
+fn all_digits(bytes: &[u8]) -> bool
+    ensures { IsTrue result ↔ AllPass is_digit bytes.now }
+{
+    bytes.iter().all(|byte| byte.is_ascii_digit())
+}
+
+/// The length of the number that these bytes begin with.
+pub fn number_len(rest: &[u8]) -> Option<usize>
+    ensures some { IfSome result (λ n. Reads rest.now n (Number (digits_value 10 (take n rest.now)))) }
+    ensures none { IfNone result ((n value : ℕ) → Reads rest.now n (Number value) → ⊥) }
+{
+    let len = run_len(rest);
+    if len > 0 && all_digits(&rest[..len]) {
+        Some(len)
+    } else {
+        None
+    }
+}
+
+/// The length of the text in quotes that these bytes begin with, its quotes included.
+pub fn quoted_len(rest: &[u8]) -> Option<usize>
+    ensures some { IfSome result (λ n. (text : List ℕ) × Reads rest.now n (Quoted text)) }
+    ensures none { IfNone result ((n : ℕ) (text : List ℕ) → Reads rest.now n (Quoted text) → ⊥) }
+{
+    if byte_at(rest, 0) != QUOTE {
+        return None;
+    }
+    let mut at = 1;
+    while at < rest.len() {
+        if rest[at] != QUOTE {
+            at += 1;
+        } else if byte_at(rest, at + 1) == QUOTE {
+            at += 2;
+        } else {
+            return Some(at + 1);
+        }
+    }
+    None
+}
+
+/// The symbol that a byte begins, where `next` follows it, or 0 nothing does.
+fn symbol_of(first: u8, next: u8) -> Option<Symbol>
+    ensures { result ≡ symbol_of first next }
+{
+    let symbol = match first {
+        b'(' => Symbol::Open,
+        b')' => Symbol::Close,
+        b',' => Symbol::Comma,
+        b'.' => Symbol::Dot,
+        b'*' => Symbol::Star,
+        b'+' => Symbol::Plus,
+        b'-' => Symbol::Minus,
+        b'=' => Symbol::Equal,
+        b';' => Symbol::Semicolon,
+        b'<' => match next {
+            b'>' => Symbol::NotEqual,
+            b'=' => Symbol::LessEqual,
+            _ => Symbol::Less,
+        },
+        b'>' => {
+            if next == b'=' {
+                Symbol::GreaterEqual
+            } else {
+                Symbol::Greater
+            }
+        }
+        _ => return None,
+    };
+    Some(symbol)
+}
+
+/// The longest symbol that these bytes begin with.
+pub fn symbol_at(rest: &[u8]) -> Option<Symbol>
+    ensures some { IfSome result (λ s. Reads rest.now (length (symbol_bytes s)) (Sign s)) }
+    ensures none { IfNone result ((n : ℕ) (s : Symbol) → Reads rest.now n (Sign s) → ⊥) }
+{
+    symbol_of(byte_at(rest, 0), byte_at(rest, 1))
+}
+
+/// How many bytes spell the symbol.
+pub fn symbol_len(symbol: Symbol) -> usize
+    ensures { result ≡ length (symbol_bytes symbol) }
+{
+    match symbol {
+        Symbol::NotEqual | Symbol::LessEqual | Symbol::GreaterEqual => 2,
+        _ => 1,
+    }
+}

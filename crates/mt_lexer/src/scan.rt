@@ -1,0 +1,104 @@
+ghost use Rattle.std.specs.Prelude.{◌≡◌, ◌≤◌, ◌<◌, ℕ, List, false, length, slice_index, IfOk, IfSome, IfNone};
+ghost use Rattle.mt_lexer.specs.declared.token.Token.{Token};
+ghost use Rattle.mt_lexer.specs.Reads.{Reads};
+ghost use Rattle.mt_lexer.specs.Tokens.{Lexeme, IsGap, IsOfKind, IsToken, Says, HasNoTokenAt, is_blank};
+
+use crate::piece::{number_len, quoted_len, symbol_at, symbol_len, word_len};
+use crate::{Token, TokenKind, Tokens};
+use std::alloc::{AllocError, Global};
+use thiserror::Error;
+
+/// Why a text has no tokens.
+#[derive(Clone, Copy, Debug, PartialEq, Eq, Error)]
+pub enum LexFault {
+    /// From the byte at this place on no token stands.
+    #[error("no token at byte {at}")]
+    Bad { at: usize },
+    #[error("out of memory")]
+    Memory,
+}
+
+impl From<AllocError> for LexFault {
+    ghost use Rattle.std.specs.Prelude.{◌≡◌};
+    ghost use Rattle.mt_lexer.specs.declared.scan.LexFault.TheVariants as fault;
+
+    ghost from_gives = { λ _ r. r ≡ fault.Memory };
+
+    fn from(_: AllocError) -> Self {
+        LexFault::Memory
+    }
+}
+
+/// The tokens of a text, in order. `Bad` exactly where there is a place, behind the tokens before it
+/// and not blank, at which none stands; `Memory` is want of memory.
+pub fn tokens(alloc: Global, text: &str) -> Result<Tokens, LexFault>
+    ensures ok { IfOk result (λ found. (lexemes : List Lexeme) × Says text.now found lexemes) }
+    ensures bad { (at : ℕ) → result ≡ Err (LexFault.Bad at) → HasNoTokenAt text.now at }
+{
+    let bytes = text.as_bytes();
+    let mut found = Tokens::new(alloc);
+    let mut at = skip_blanks(bytes, 0);
+    while at < bytes.len() {
+        let Some(token) = token_at(bytes, at) else {
+            return Err(LexFault::Bad { at });
+        };
+        found.push(token)?;
+        at = skip_blanks(bytes, token.upto);
+    }
+    Ok(found)
+}
+
+/// Where the blanks from a place on end.
+fn skip_blanks(text: &[u8], from: usize) -> usize
+    requires { from ≤ length text.now }
+    ensures gap { IsGap text.now from result }
+    ensures stops { result < length text.now → is_blank (slice_index text.now result) ≡ false }
+{
+    let mut at = from;
+    while at < text.len() && is_blank(text[at]) {
+        at += 1;
+    }
+    at
+}
+
+/// Whether the byte is a space or a tab.
+fn is_blank(byte: u8) -> bool
+    ensures { result ≡ is_blank byte }
+{
+    byte == b' ' || byte == b'\t'
+}
+
+/// The token that stands at a place.
+fn token_at(text: &[u8], at: usize) -> Option<Token>
+    requires { at ≤ length text.now }
+    ensures place { IfSome result (λ t. (t.from ≡ at) × (t.from < t.upto) × (t.upto ≤ length text.now)) }
+    ensures token { IfSome result (λ t. (lexeme : Lexeme) × IsToken text.now t lexeme) }
+    ensures none { IfNone result ((t : Token) (lexeme : Lexeme) → t.from ≡ at → IsToken text.now t lexeme → ⊥) }
+{
+    let Some((kind, len)) = kind_at(&text[at..]) else {
+        return None;
+    };
+    Some(Token {
+        kind,
+        from: at,
+        upto: at + len,
+    })
+}
+
+/// The kind of token that these bytes begin with, and how many it takes.
+fn kind_at(rest: &[u8]) -> Option<(TokenKind, usize)>
+    ensures some { IfSome result (λ found. (lexeme : Lexeme) × IsOfKind found.0 lexeme × Reads rest.now found.1 lexeme) }
+    ensures none { IfNone result ((n : ℕ) (lexeme : Lexeme) → Reads rest.now n lexeme → ⊥) }
+{
+    if let Some(len) = word_len(rest) {
+        return Some((TokenKind::Word, len));
+    }
+    if let Some(len) = number_len(rest) {
+        return Some((TokenKind::Number, len));
+    }
+    if let Some(len) = quoted_len(rest) {
+        return Some((TokenKind::Text, len));
+    }
+    let symbol = symbol_at(rest)?;
+    Some((TokenKind::Symbol(symbol), symbol_len(symbol)))
+}

@@ -1,0 +1,274 @@
+-- Worked examples of the definitions: what a few lines say, do and are answered.
+use Rattle.std.proofs.Common.{◌≡◌, ℕ, List, [], ◌∷◌, map, length, sum_by, true, Some, None, refl, sym, ap, ◌∙◌, pos, negsuc, codes}
+use Rattle.std.specs.Fmt.{digits}
+use Rattle.std.specs.FinMap as finite
+use Rattle.std.specs.Ordering.{nat_cmp}
+use Rattle.mt_tree.specs.declared.code.Code.TheVariants.{UnknownTenant, NotServed, NumberOutside64Bits, UnknownTable, UnknownColumn, TypesDoNotFit, TextTooLong, QuotaFull, NameExists, ColumnNameTaken, Limit, QuotasTooLarge}
+use Rattle.mt_tree.specs.declared.command.AdminCmd.TheVariants.{CreateTable, CreateTenant}
+use Rattle.mt_tree.specs.declared.command.Def.{Def}
+use Rattle.mt_tree.specs.declared.command.DefKind.TheVariants as def
+use Rattle.mt_tree.specs.declared.reply.Reply.{Reply}
+use Rattle.mt_tree.specs.declared.reply.Reply.TheVariants.{Text, Refused, Memory}
+use Rattle.mt_tree.specs.declared.schema.Table.{Table}
+use Rattle.mt_tree.specs.declared.statement.Literal.{Literal}
+use Rattle.mt_tree.specs.declared.statement.Literal.TheVariants as literal
+use Rattle.mt_tree.specs.declared.statement.SimpleStmt.{SimpleStmt}
+use Rattle.mt_tree.specs.declared.statement.SimpleStmt.TheVariants.{Insert, Select}
+use Rattle.mt_script.specs.Lines as lines
+use Rattle.mt_script.specs.Lines.{cut, without_return, lines_of, ended_lines_of}
+use Rattle.mt_grammar.specs.Reading.{Said, Unserved, Outside, Says}
+use Rattle.mt_model.specs.Answer.{answer, next_view}
+use Rattle.mt_model.specs.Command.{table_of_defs, new_database, command_refusal, applied, applied_view}
+use Rattle.mt_model.specs.Database.{PrivateDatabase, no_rows, with_table_in_each}
+use Rattle.mt_model.specs.Isolation.{Asks, Takes, own_events, replies_to, private_replies}
+use Rattle.mt_model.specs.Laws.{get-insert, command_step-decided}
+use Rattle.mt_model.specs.Request.{Request, Statement, Command}
+use Rattle.mt_model.specs.Service.{Service, View, empty_service, quota_total}
+use Rattle.mt_model.specs.Step.{step, command_step}
+
+-- the lines end at line feeds; a last one without a line feed counts where it has a byte
+cut-ended : cut (codes "a\nbc\n") ≡ codes "a" ∷ codes "bc" ∷ []
+cut-ended = refl
+
+cut-unended : cut (codes "a\n\nbc") ≡ codes "a" ∷ [] ∷ codes "bc" ∷ []
+cut-unended = refl
+
+cut-nothing : cut [] ≡ []
+cut-nothing = refl
+
+-- one carriage return is dropped in front of a line feed, and no more
+without_return-one : without_return (codes "a\r\r") ≡ codes "a\r"
+without_return-one = refl
+
+-- comments, blanks alone and empty lines get no reply
+lines_of-silent : lines_of (codes "-- note\r\n@1 a\r\n \t\n\n\r\n@2 b") ≡ lines.Text (codes "@1 a") ∷ lines.Text (codes "@2 b") ∷ []
+lines_of-silent = refl
+
+-- blanks in front of the two dashes make it no comment
+lines_of-blanks : lines_of (codes " -- note\n") ≡ lines.Text (codes " -- note") ∷ []
+lines_of-blanks = refl
+
+-- the last line is left out where it has no line feed
+ended_lines_of-two : ended_lines_of (codes "@1 a\n@2 b") ≡ lines.Text (codes "@1 a") ∷ []
+ended_lines_of-two = refl
+
+-- CREATE TABLE t (a INTEGER, b VARCHAR(5))
+abbrev defs : List Def
+defs = record { name = codes "a"; kind = def.Integer } ∷ record { name = codes "b"; kind = def.Varchar 5 } ∷ []
+
+abbrev table : Table
+table = table_of_defs (codes "t") defs
+
+-- a table is made
+create_table-reply : (step empty_service (Command (Says (CreateTable (codes "t") defs)))).reply ≡ Text (codes "ok\n")
+unfolding empty_service
+create_table-reply = refl
+
+create_table-tables : (step empty_service (Command (Says (CreateTable (codes "t") defs)))).next.tables ≡ table ∷ []
+unfolding empty_service
+create_table-tables = refl
+
+-- the service then, and again with a line of the administrator
+abbrev with_table : Service
+with_table = (step empty_service (Command (Says (CreateTable (codes "t") defs)))).next
+
+-- a table of that name is there already, whatever its columns
+create_table-twice : (step with_table (Command (Says (CreateTable (codes "t") (record { name = codes "c"; kind = def.Integer } ∷ []))))).reply ≡ Refused NameExists
+unfolding empty_service
+create_table-twice = refl
+
+-- a column stands twice
+create_table-column_twice : (step with_table (Command (Says (CreateTable (codes "u") (record { name = codes "a"; kind = def.Integer } ∷ record { name = codes "a"; kind = def.Varchar 5 } ∷ []))))).reply ≡ Refused ColumnNameTaken
+unfolding empty_service
+create_table-column_twice = refl
+
+-- a VARCHAR has from 1 to 120 bytes
+create_table-size_zero : (step with_table (Command (Says (CreateTable (codes "u") (record { name = codes "a"; kind = def.Varchar 0 } ∷ []))))).reply ≡ Refused Limit
+unfolding empty_service
+create_table-size_zero = refl
+
+create_table-size_121 : (step with_table (Command (Says (CreateTable (codes "u") (record { name = codes "a"; kind = def.Varchar 121 } ∷ []))))).reply ≡ Refused Limit
+unfolding empty_service
+create_table-size_121 = refl
+
+create_table-size_120 : (step with_table (Command (Says (CreateTable (codes "u") (record { name = codes "a"; kind = def.Varchar 120 } ∷ []))))).reply ≡ Text (codes "ok\n")
+unfolding empty_service
+create_table-size_120 = refl
+
+-- at first there is no tenant
+get-first : (tenant : ℕ) → finite.get empty_service.tenants tenant ≡ None
+unfolding empty_service
+get-first tenant = finite.get-empty nat_cmp tenant
+
+len-first : finite.len empty_service.tenants ≡ 0
+unfolding empty_service
+len-first = finite.len-empty nat_cmp PrivateDatabase
+
+none-left : {A : Type 0} (xs : List A) → length xs ≡ 0 → xs ≡ []
+none-left [] e = refl
+none-left (x ∷ xs) e = cc
+
+quota_total-first : quota_total empty_service ≡ 0
+unfolding quota_total
+quota_total-first = ap (λ (entries : List (ℕ × PrivateDatabase)). sum_by (λ database. database.quota) (map (λ entry. entry.1) entries))
+    (none-left (finite.entries empty_service.tenants) (sym (finite.len-entries empty_service.tenants) ∙ len-first))
+
+-- a tenant is made
+create_tenant-refusal : command_refusal empty_service (CreateTenant 1 5) ≡ None
+create_tenant-refusal = rw (get-first, len-first, quota_total-first) refl
+
+create_tenant-step : command_step empty_service (CreateTenant 1 5) ≡ record { reply = Text (codes "ok\n"); next = applied empty_service (CreateTenant 1 5) }
+create_tenant-step = command_step-decided empty_service (CreateTenant 1 5) None create_tenant-refusal
+
+-- a quota is from 1 to 65,536, and a number from 1 to 4,294,967,295
+create_tenant-greatest : command_refusal empty_service (CreateTenant 4294967295 65536) ≡ None
+create_tenant-greatest = rw (get-first, len-first, quota_total-first) refl
+
+create_tenant-quota_65537 : command_refusal empty_service (CreateTenant 1 65537) ≡ Some Limit
+create_tenant-quota_65537 = rw (get-first, len-first) refl
+
+create_tenant-quota_zero : command_refusal empty_service (CreateTenant 1 0) ≡ Some Limit
+create_tenant-quota_zero = rw (get-first, len-first) refl
+
+create_tenant-number_zero : command_refusal empty_service (CreateTenant 0 1) ≡ Some Limit
+create_tenant-number_zero = rw (get-first, len-first) refl
+
+-- the tenant is there already, whatever the quota
+abbrev with_tenant : Service
+with_tenant = applied empty_service (CreateTenant 1 5)
+
+create_tenant-twice : command_refusal with_tenant (CreateTenant 1 0) ≡ Some NameExists
+create_tenant-twice = rw (get-insert empty_service.tenants 1 (new_database empty_service.tables 5) 1) refl
+
+create_tenant-twice-step : command_step with_tenant (CreateTenant 1 0) ≡ record { reply = Refused NameExists; next = with_tenant }
+create_tenant-twice-step = command_step-decided with_tenant (CreateTenant 1 0) (Some NameExists) create_tenant-twice
+
+-- sixteen tenants have all of 1,048,576 rows together, and so no other can be made
+create_tenant-quotas : (service : Service) → finite.get service.tenants 17 ≡ None → finite.len service.tenants ≡ 16 → quota_total service ≡ 1048576 → command_refusal service (CreateTenant 17 1) ≡ Some QuotasTooLarge
+create_tenant-quotas service none tenants total = rw (none, tenants, total) refl
+
+create_tenant-last_quota : (service : Service) → finite.get service.tenants 17 ≡ None → finite.len service.tenants ≡ 16 → quota_total service ≡ 1048575 → command_refusal service (CreateTenant 17 1) ≡ None
+create_tenant-last_quota service none tenants total = rw (none, tenants, total) refl
+
+-- there are at most 1,000 tenants
+create_tenant-thousand : (service : Service) → finite.get service.tenants 17 ≡ None → finite.len service.tenants ≡ 1000 → command_refusal service (CreateTenant 17 1) ≡ Some Limit
+create_tenant-thousand service none tenants = rw (none, tenants) refl
+
+-- what a tenant sees once the table is there
+abbrev made_table : View
+made_table = record { tables = table ∷ []; database = None }
+
+-- CREATE TENANT 1 QUOTA 1 once the table is there, as the tenant sees it
+abbrev new_tenant : View
+new_tenant = applied_view made_table (CreateTenant 1 1)
+
+-- INSERT INTO t VALUES (7, 'x')
+abbrev insert_seven : Said SimpleStmt
+insert_seven = Says (Insert (codes "t") (literal.Int (pos 7) ∷ literal.Text (codes "x") ∷ []))
+
+insert_seven-answer : answer new_tenant insert_seven ≡ Text (codes "ok 1\n")
+insert_seven-answer = refl
+
+-- what the tenant sees then
+abbrev with_seven : View
+with_seven = next_view new_tenant insert_seven
+
+-- SELECT b, a FROM t
+select_columns : answer with_seven (Says (Select (codes "t") (codes "b" ∷ codes "a" ∷ []))) ≡ Text (codes "columns b|a\n'x'|7\nok 1\n")
+unfolding digits
+select_columns = refl
+
+-- SELECT * FROM t
+select_all : answer with_seven (Says (Select (codes "t") [])) ≡ Text (codes "columns a|b\n7|'x'\nok 1\n")
+unfolding digits
+select_all = refl
+
+-- before the INSERT there is no row
+select_none : answer new_tenant (Says (Select (codes "t") [])) ≡ Text (codes "columns a|b\nok 0\n")
+unfolding digits
+select_none = refl
+
+-- the quota is full
+insert-quota : answer with_seven (Says (Insert (codes "t") (literal.Int (pos 8) ∷ literal.Text (codes "y") ∷ []))) ≡ Refused QuotaFull
+insert-quota = refl
+
+-- and leaves what the tenant sees
+insert-quota-next : next_view with_seven (Says (Insert (codes "t") (literal.Int (pos 8) ∷ literal.Text (codes "y") ∷ []))) ≡ with_seven
+insert-quota-next = refl
+
+-- before the quota is asked, the values must fit their columns, and the texts be short enough
+insert-types : answer with_seven (Says (Insert (codes "t") (literal.Text (codes "toolong") ∷ literal.Text (codes "toolong") ∷ []))) ≡ Refused TypesDoNotFit
+insert-types = refl
+
+insert-too_few : answer with_seven (Says (Insert (codes "t") (literal.Int (pos 8) ∷ []))) ≡ Refused TypesDoNotFit
+insert-too_few = refl
+
+insert-too_long : answer with_seven (Says (Insert (codes "t") (literal.Null ∷ literal.Text (codes "sixsix") ∷ []))) ≡ Refused TextTooLong
+insert-too_long = refl
+
+-- a table is looked for before its columns
+select-table : answer with_seven (Says (Select (codes "u") (codes "c" ∷ []))) ≡ Refused UnknownTable
+select-table = refl
+
+select-column : answer with_seven (Says (Select (codes "t") (codes "a" ∷ codes "c" ∷ []))) ≡ Refused UnknownColumn
+select-column = refl
+
+-- a line that says nothing that is served, or a number outside 64 bits
+unserved-answer : answer with_seven Unserved ≡ Refused NotServed
+unserved-answer = refl
+
+outside-answer : answer with_seven Outside ≡ Refused NumberOutside64Bits
+outside-answer = refl
+
+-- all of this is asked after the tenant
+unknown_tenant-answer : answer made_table Unserved ≡ Refused UnknownTenant
+unknown_tenant-answer = refl
+
+-- NULL is printed first, then numbers by size, and each of two equal rows
+abbrev four_rows : View
+four_rows =
+    let insert = λ (z : Literal). Says (Insert (codes "t") (z ∷ literal.Null ∷ [])) in
+    let first = next_view (applied_view made_table (CreateTenant 1 4)) (insert (literal.Int (pos 10))) in
+    let second = next_view first (insert (literal.Int (negsuc 1))) in
+    let third = next_view second (insert literal.Null) in
+    next_view third (insert (literal.Int (pos 10)))
+
+select-order : answer four_rows (Says (Select (codes "t") (codes "a" ∷ []))) ≡ Text (codes "columns a\nNULL\n-2\n10\n10\nok 4\n")
+unfolding digits
+select-order = refl
+
+-- A run of five lines: a table and a tenant are made, another tenant asks and is refused, the tenant
+-- inserts, and its last line is answered for want of memory.
+abbrev five_requests : List Request
+five_requests =
+    Command (Says (CreateTable (codes "t") defs)) ∷ Command (Says (CreateTenant 1 1)) ∷ Statement 2 insert_seven
+    ∷ Statement 1 insert_seven ∷ Statement 1 Unserved ∷ []
+
+abbrev five_replies : List Reply
+five_replies = Text (codes "ok\n") ∷ Text (codes "ok\n") ∷ Refused UnknownTenant ∷ Text (codes "ok 1\n") ∷ Memory ∷ []
+
+-- to the tenant these are its own events, without the line that counts as not sent
+own_events-first : own_events 1 five_requests five_replies ≡ Takes (CreateTable (codes "t") defs) ∷ Takes (CreateTenant 1 1) ∷ Asks insert_seven ∷ []
+own_events-first = refl
+
+-- to the other the table, and the line that was refused
+own_events-second : own_events 2 five_requests five_replies ≡ Takes (CreateTable (codes "t") defs) ∷ Asks insert_seven ∷ []
+own_events-second = refl
+
+replies_to-first : replies_to 1 five_requests five_replies ≡ Text (codes "ok 1\n") ∷ []
+replies_to-first = refl
+
+-- a private database without a table answers the own events so
+abbrev first_view : View
+first_view = record { tables = []; database = None }
+
+private_replies-first : private_replies first_view (own_events 1 five_requests five_replies) ≡ Text (codes "ok 1\n") ∷ []
+private_replies-first = refl
+
+private_replies-second : private_replies first_view (own_events 2 five_requests five_replies) ≡ Refused UnknownTenant ∷ []
+private_replies-second = refl
+
+-- a new table is added to what the tables held when a transaction began, too
+with_table_in_each-saved : with_table_in_each (record { quota = 1; current = no_rows ∷ []; saved = Some (record { content = []; changed = true }) })
+    ≡ record { quota = 1; current = no_rows ∷ no_rows ∷ []; saved = Some (record { content = no_rows ∷ []; changed = true }) }
+with_table_in_each-saved = refl

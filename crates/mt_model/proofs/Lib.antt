@@ -1,0 +1,4 @@
+pub mod Seen
+pub mod OneRequest
+pub mod Unchanged
+pub mod Examples

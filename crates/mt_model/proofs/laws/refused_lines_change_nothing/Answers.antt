@@ -1,0 +1,6 @@
+-- A refused statement puts back the database that is there.
+use Rattle.mt_model.proofs.Unchanged.{line-refused}
+use Rattle.mt_model.proofs.laws.refused_lines_change_nothing.Goals as goal
+
+pub returns-clause-refused : goal.returns-clause-refused
+returns-clause-refused c = line-refused

@@ -1,0 +1,4 @@
+pub mod Coded
+pub mod Kept
+pub mod Outcome
+pub mod Visible
