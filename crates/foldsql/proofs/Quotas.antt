@@ -13,7 +13,7 @@ use Rattle.std.specs.FinMap.Entries.{by_order}
 use Rattle.std.proofs.lemmas.Grind.{common_steps}
 use Rattle.std.proofs.lemmas.List.{nil_from_length}
 use Rattle.std.proofs.lemmas.List.Sums.{sum_by-cons}
-use Rattle.mt_tree.specs.declared.command.AdminCmd.TheVariants.{CreateTenant}
+use Rattle.mt_tree.specs.declared.simple.SimpleCmd.TheVariants.{CreateTenant}
 use Rattle.mt_tree.specs.declared.code.Code.TheVariants.{NameExists, QuotasTooLarge}
 use Rattle.mt_tree.specs.declared.reply.Reply.TheVariants.{Text, Refused}
 use Rattle.mt_model.specs.Command.{applied, new_database}

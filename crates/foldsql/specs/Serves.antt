@@ -1,7 +1,7 @@
 -- What a call of the program leaves: its status, what it put out, and which lines it answered.
 use Rattle.std.specs.Prelude.{◌≡◌, ◌⊎◌, ℕ, ◌^◌, ◌<◌, IsTrue, List, [], ◌∷◌, ◌++◌, length, map, codes, string_bytes, String}
 use Rattle.std.specs.declared.alloc.Global.{Global}
-use Rattle.mt_machine.specs.Meaning.{Meaning, Supply}
+use Rattle.mt_machine.specs.Meaning.{Disk, Meaning, Supply}
 use Rattle.mt_tree.specs.declared.reply.Reply.{Reply}
 use Rattle.mt_tree.specs.Replies.{reply_bytes}
 use Rattle.mt_script.specs.Lines.{Line, lines_of, ended_lines_of}
@@ -30,6 +30,7 @@ last_line SourceFault = codes "stopped source fault\n"
 last_line InputTooLong = codes "stopped input too long\n"
 last_line NoMemory = codes "stopped no memory\n"
 
+-- the one sequence begins the other
 abbrev pub IsPrefixOf : {A : Type 0} → List A → List A → Type 0
 IsPrefixOf {A} xs ys = (rest : List A) × (ys ≡ xs ++ rest)
 
@@ -106,8 +107,11 @@ IsRefusal Words old new = IsTrue new.tells → new.output ≡ old.output ++ last
 IsRefusal EmitFault old new = IsTrue new.tells → (front : List ℕ) × (new.output ≡ old.output ++ front) × IsPrefixOf front (last_line Words)
 IsRefusal status old new = ⊥
 
--- What stays as it is whatever the words are: neither area changes, and no fault of the disk is counted.
+-- What stays as it is whatever the words are: neither area changes, a stop leaves no image but one that it
+-- might have left before, and no fault of the disk is counted.
 pub record KeepsAreas (old new : Meaning) : Type 0 where
   pub told : IsTrue new.tells → IsTrue old.tells
   pub content : IsTrue new.tells → new.content ≡ old.content
+  pub told_moments : IsTrue new.tells_moments → IsTrue old.tells_moments
+  pub images : IsTrue new.tells_moments → (image : Disk) → new.images image → old.images image
   pub disk_faults : new.disk_faults ≡ old.disk_faults

@@ -1,7 +1,7 @@
 -- The service that is kept as the quota of each tenant.
 use Rattle.std.specs.Prelude.{◌≡◌, ◌⊎◌, ◌≤◌, ℕ, List, [], map as map_list}
 use Rattle.std.specs.FinMap as finite
-use Rattle.mt_tree.specs.declared.command.AdminCmd.TheVariants.{CreateTenant}
+use Rattle.mt_tree.specs.declared.simple.SimpleCmd.TheVariants.{CreateTenant}
 use Rattle.mt_tree.specs.declared.reply.Reply.{Reply}
 use Rattle.mt_grammar.specs.Reading.{Says}
 use Rattle.mt_model.specs.Command.{new_database}

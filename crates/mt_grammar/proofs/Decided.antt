@@ -8,19 +8,20 @@ use Rattle.mt_lexer.proofs.Determined.{says_unique, refused_says_nothing}
 use Rattle.mt_lexer.specs.declared.token.Token.{Token}
 use Rattle.mt_lexer.specs.Tokens as lexer
 use Rattle.mt_lexer.specs.Tokens.{Lexeme, HasNoTokenAt}
-use Rattle.mt_tree.specs.declared.command.AdminCmd.{AdminCmd}
-use Rattle.mt_tree.specs.declared.command.AdminCmd.TheVariants.{CreateTable, CreateTenant}
-use Rattle.mt_tree.specs.declared.command.Def.{Def}
+use Rattle.mt_tree.specs.declared.simple.SimpleCmd.{SimpleCmd}
+use Rattle.mt_tree.specs.declared.simple.SimpleCmd.TheVariants.{CreateTable, CreateTenant}
+use Rattle.mt_tree.specs.declared.simple.SimpleDef.{SimpleDef}
 use Rattle.mt_tree.specs.declared.command.DefKind.{DefKind}
 use Rattle.mt_tree.specs.declared.command.DefKind.TheVariants.{Integer, Varchar}
-use Rattle.mt_tree.specs.declared.statement.Literal.{Literal}
-use Rattle.mt_tree.specs.declared.statement.Literal.TheVariants.{Null, Int, Text}
-use Rattle.mt_tree.specs.declared.statement.SimpleStmt.{SimpleStmt}
-use Rattle.mt_tree.specs.declared.statement.SimpleStmt.TheVariants.{Insert, Select}
+use Rattle.mt_tree.specs.declared.expression.Literal.{Literal}
+use Rattle.mt_tree.specs.declared.expression.Literal.TheVariants.{Null, Int, Text}
+use Rattle.mt_tree.specs.declared.simple.SimpleStmt.{SimpleStmt}
+use Rattle.mt_tree.specs.declared.simple.SimpleStmt.TheVariants.{Insert, Select}
 use Rattle.mt_grammar.specs.Descent.{statement_of, command_of}
-use Rattle.mt_grammar.specs.Forms.{Form, WithSemicolon}
+use Rattle.mt_reader.specs.Forms.{Form, WithSemicolon}
 use Rattle.mt_grammar.specs.Reading.{Reads, Said, Unserved, Outside, Says, IsSaid}
-use Rattle.mt_grammar.specs.Simple.{SpellsStatement, IsInside, IsLiteralInside, SpellsCommand, IsCommandInside, IsKindInside, limit_64}
+use Rattle.mt_grammar.specs.Simple.{SpellsStatement, IsInside, SpellsCommand, IsCommandInside, IsKindInside}
+use Rattle.mt_reader.specs.Literals.{IsLiteralInside, limit_64}
 use Rattle.mt_grammar.proofs.Statements.{statement_sound, statement_complete, command_sound, command_complete}
 
 -- this holds, or it does not
@@ -49,13 +50,13 @@ statement_or_not : (statement : SimpleStmt) → OrNot (IsInside statement)
 statement_or_not (Insert table values) = all_or_not IsLiteralInside literal_or_not values
 statement_or_not (Select table columns) = inl tt
 
-kind_or_not : (def : Def) → OrNot (IsKindInside def.kind)
+kind_or_not : (def : SimpleDef) → OrNot (IsKindInside def.kind)
 kind_or_not def = by def.kind where
   by : (kind : DefKind) → OrNot (IsKindInside kind)
   by Integer = inl tt
   by (Varchar size) = below_or_not size limit_64
 
-command_or_not : (command : AdminCmd) → OrNot (IsCommandInside command)
+command_or_not : (command : SimpleCmd) → OrNot (IsCommandInside command)
 command_or_not (CreateTable name columns) = all_or_not (λ def. IsKindInside def.kind) kind_or_not columns
 command_or_not (CreateTenant tenant quota) = by (below_or_not tenant limit_64) (below_or_not quota limit_64) where
   by : OrNot (tenant < limit_64) → OrNot (quota < limit_64) → OrNot ((tenant < limit_64) × (quota < limit_64))
@@ -90,5 +91,5 @@ module _ {T : Type 0} (form : Form T) (inside : T → Type 0) (whole : List Lexe
 pub statement_says : (text : List ℕ) → (said : Said SimpleStmt) × IsSaid SpellsStatement IsInside text said
 statement_says = text_says SpellsStatement IsInside statement_of statement_sound statement_complete statement_or_not
 
-pub command_says : (text : List ℕ) → (said : Said AdminCmd) × IsSaid SpellsCommand IsCommandInside text said
+pub command_says : (text : List ℕ) → (said : Said SimpleCmd) × IsSaid SpellsCommand IsCommandInside text said
 command_says = text_says SpellsCommand IsCommandInside command_of command_sound command_complete command_or_not

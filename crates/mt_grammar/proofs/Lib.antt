@@ -1,10 +1,3 @@
-pub mod Lexemes
-pub mod Lists
-pub mod Literals
-pub mod Numbers
-pub mod Quoting
-pub mod Spelling
 pub mod Statements
-pub mod Steps
 pub mod Texts
 pub mod Decided

@@ -1,76 +1,27 @@
 -- Statements and commands: what is read is spelled so, and what is spelled so is read.
-use Rattle.std.proofs.Common.{◌≡◌, ℕ, false, Option, Some, None, List, [], ◌∷◌, ◌++◌, refl, ap, ◌∙◌, subst, inl, inr, append_assoc}
+use Rattle.std.proofs.Common.{◌≡◌, ℕ, false, Option, Some, None, List, [], ◌∷◌, ◌++◌, refl, ap, ◌∙◌, subst, append_assoc}
 use Rattle.std.specs.Prelude.{codes}
 use Rattle.mt_lexer.specs.declared.token.Symbol.TheVariants as symbol
-use Rattle.mt_lexer.specs.Tokens.{Lexeme, Word, Number, Quoted, Sign}
-use Rattle.mt_tree.specs.declared.statement.Literal.{Literal}
-use Rattle.mt_tree.specs.declared.statement.Literal.TheVariants.{Null, Int, Text}
-use Rattle.mt_tree.specs.declared.statement.SimpleStmt.{SimpleStmt}
-use Rattle.mt_tree.specs.declared.statement.SimpleStmt.TheVariants.{Insert, Select}
-use Rattle.mt_tree.specs.declared.command.AdminCmd.{AdminCmd}
-use Rattle.mt_tree.specs.declared.command.AdminCmd.TheVariants.{CreateTable, CreateTenant}
-use Rattle.mt_tree.specs.declared.command.Def.{Def}
+use Rattle.mt_lexer.specs.Tokens.{Lexeme, Word, Number, Sign}
+use Rattle.mt_tree.specs.declared.expression.Literal.{Literal}
+use Rattle.mt_tree.specs.declared.simple.SimpleStmt.{SimpleStmt}
+use Rattle.mt_tree.specs.declared.simple.SimpleStmt.TheVariants.{Insert, Select}
+use Rattle.mt_tree.specs.declared.simple.SimpleCmd.{SimpleCmd}
+use Rattle.mt_tree.specs.declared.simple.SimpleCmd.TheVariants.{CreateTable, CreateTenant}
+use Rattle.mt_tree.specs.declared.simple.SimpleDef.{SimpleDef}
 use Rattle.mt_tree.specs.declared.command.DefKind.{DefKind}
 use Rattle.mt_tree.specs.declared.command.DefKind.TheVariants.{Integer, Varchar}
-use Rattle.mt_grammar.specs.Forms.{Separated, WithSemicolon}
-use Rattle.mt_grammar.specs.Names.{IsName}
-use Rattle.mt_grammar.specs.Simple.{SpellsLiteral, SpellsColumns, SpellsStatement, SpellsKind, SpellsDef, SpellsCommand}
-use Rattle.mt_grammar.specs.Descent.{after, name_of, number_of, is_reserved_name, literal_of, separated_of, insert_of, columns_of, columns_behind, select_of, form_of, statement_behind, statement_of, size_of, kind_of, kind_behind, def_of, table_of, tenant_of, create_of, create_behind, command_of}
-use Rattle.mt_grammar.specs.Shrinking.{bind_some, same_tree, same_rest, name_shrinks, literal_shrinks, def_shrinks}
-use Rattle.mt_grammar.proofs.Spelling.{Begins, IsSound, IsComplete, after_is, name_is, number_is, separated_sound, separated_complete, ended_sound, ended_complete}
-
--- names
-
--- what is read as a name is one
-name_sound : IsSound IsName name_of
-name_sound lexemes rest name e =
-    let p = name_is lexemes rest name e in
-    record { front = Word name ∷ []; whole = p.0; spelled = (refl, p.1) }
-
--- a name is read
-name_complete : IsComplete IsName name_of
-unfolding name_of
-name_complete front more name s = rw (s.0, s.1) refl
-
--- literals
-
--- what is read as a literal is one
-literal_sound : IsSound SpellsLiteral literal_of
-unfolding literal_of
-literal_sound [] rest literal e = cc
-literal_sound (Word word ∷ left) rest literal e =
-    let p = bind_some (after (Word (codes "null")) (Word word ∷ left)) _ (literal, rest) e in
-    record {
-      front = Word (codes "null") ∷ [];
-      whole = after_is (Word (codes "null")) (Word word ∷ left) p.0 p.1 ∙ ap (λ ls. Word (codes "null") ∷ ls) (same_rest p.2);
-      spelled = subst (SpellsLiteral (Word (codes "null") ∷ [])) (same_tree p.2) refl;
-    }
-literal_sound (Number value ∷ left) rest literal e = record {
-  front = Number value ∷ [];
-  whole = ap (λ ls. Number value ∷ ls) (same_rest e);
-  spelled = subst (SpellsLiteral (Number value ∷ [])) (same_tree e) (value, inl (refl, refl));
-}
-literal_sound (Quoted text ∷ left) rest literal e = record {
-  front = Quoted text ∷ [];
-  whole = ap (λ ls. Quoted text ∷ ls) (same_rest e);
-  spelled = subst (SpellsLiteral (Quoted text ∷ [])) (same_tree e) refl;
-}
-literal_sound (Sign sign ∷ left) rest literal e =
-    let p = bind_some (after (Sign symbol.Minus) (Sign sign ∷ left)) _ (literal, rest) e in
-    let q = bind_some (number_of p.0) _ (literal, rest) p.2 in
-    let front = Sign symbol.Minus ∷ Number q.0.0 ∷ [] in
-    record {
-      front = front;
-      whole = after_is (Sign symbol.Minus) (Sign sign ∷ left) p.0 p.1 ∙ ap (λ ls. Sign symbol.Minus ∷ ls) (number_is p.0 q.0.1 q.0.0 q.1 ∙ ap (λ ls. Number q.0.0 ∷ ls) (same_rest q.2));
-      spelled = subst (SpellsLiteral front) (same_tree q.2) (q.0.0, inr (refl, refl));
-    }
-
--- a literal is read
-literal_complete : IsComplete SpellsLiteral literal_of
-unfolding literal_of after number_of
-literal_complete front more Null s = rw s refl
-literal_complete front more (Int z) s = elim s.1 [ inl w ↦ rw (w.0, w.1) refl | inr w ↦ rw (w.0, w.1) refl ]
-literal_complete front more (Text text) s = rw s refl
+use Rattle.mt_reader.specs.Forms.{Separated, WithSemicolon}
+use Rattle.mt_reader.specs.Fronts.{Begins}
+use Rattle.mt_reader.specs.Literals.{SpellsLiteral}
+use Rattle.mt_reader.specs.Names.{IsName}
+use Rattle.mt_grammar.specs.Simple.{SpellsColumns, SpellsStatement, SpellsKind, SpellsDef, SpellsCommand}
+use Rattle.mt_reader.specs.Descent.{after, name_of, number_of, is_reserved_name, literal_of, separated_of}
+use Rattle.mt_grammar.specs.Descent.{insert_of, columns_of, columns_behind, select_of, form_of, statement_behind, statement_of, size_of, kind_of, kind_behind, def_of, table_of, tenant_of, create_of, create_behind, command_of}
+use Rattle.mt_reader.specs.Shrinking.{bind_some, same_tree, same_rest, name_shrinks, literal_shrinks}
+use Rattle.mt_grammar.specs.Shrinking.{def_shrinks}
+use Rattle.mt_reader.proofs.Parts.{name_sound, name_complete, literal_sound, literal_complete}
+use Rattle.mt_reader.proofs.Spelling.{IsSound, IsComplete, after_is, name_is, number_is, separated_sound, separated_complete, ended_sound, ended_complete}
 
 -- INSERT
 
@@ -86,10 +37,10 @@ insert_sound lexemes left rest statement h e =
     let b = bind_some (name_of a.0) _ (statement, rest) a.2 in
     let c = bind_some (after (Word (codes "values")) b.0.1) _ (statement, rest) b.2 in
     let d = bind_some (after (Sign symbol.Open) c.0) _ (statement, rest) c.2 in
-    let f = bind_some (separated_of literal_of d.0) _ (statement, rest) d.2 in
+    let f = bind_some (separated_of literal_of (Sign symbol.Comma) d.0) _ (statement, rest) d.2 in
     let g = bind_some (after (Sign symbol.Close) f.0.1) _ (statement, rest) f.2 in
     let n = name_is a.0 b.0.1 b.0.0 b.1 in
-    let v = separated_sound SpellsLiteral literal_of literal_sound d.0 f.0.1 f.0.0 f.1 in
+    let v = separated_sound SpellsLiteral literal_of (Sign symbol.Comma) literal_sound d.0 f.0.1 f.0.0 f.1 in
     let front = Word (codes "insert") ∷ Word (codes "into") ∷ Word b.0.0 ∷ Word (codes "values") ∷ Sign symbol.Open ∷ (v.front ++ Sign symbol.Close ∷ []) in
     record {
       front = front;
@@ -100,7 +51,7 @@ insert_sound lexemes left rest statement h e =
     }
 
 -- an INSERT is read
-insert_complete : (table : List ℕ) (inner more : List Lexeme) (values : List Literal) → is_reserved_name table ≡ false → separated_of literal_of (inner ++ Sign symbol.Close ∷ more) ≡ Some (values, Sign symbol.Close ∷ more) → form_of (Word (codes "insert") ∷ Word (codes "into") ∷ Word table ∷ Word (codes "values") ∷ Sign symbol.Open ∷ (inner ++ Sign symbol.Close ∷ more)) ≡ Some (Insert table values, more)
+insert_complete : (table : List ℕ) (inner more : List Lexeme) (values : List Literal) → is_reserved_name table ≡ false → separated_of literal_of (Sign symbol.Comma) (inner ++ Sign symbol.Close ∷ more) ≡ Some (values, Sign symbol.Close ∷ more) → form_of (Word (codes "insert") ∷ Word (codes "into") ∷ Word table ∷ Word (codes "values") ∷ Sign symbol.Open ∷ (inner ++ Sign symbol.Close ∷ more)) ≡ Some (Insert table values, more)
 unfolding form_of insert_of after name_of
 insert_complete table inner more values free read = rw (free, read) refl
 
@@ -121,7 +72,7 @@ columns_sound lexemes rest columns e = by_star (after (Sign symbol.Star) lexemes
     spelled = subst (SpellsColumns (Sign symbol.Star ∷ [])) (same_tree e) refl;
   }
   by_star None a e =
-      let s = separated_sound IsName name_of name_sound lexemes rest columns e in
+      let s = separated_sound IsName name_of (Sign symbol.Comma) name_sound lexemes rest columns e in
       record { front = s.front; whole = s.whole; spelled = as_columns s.front columns s.spelled }
 
 -- names with commas between begin with a word
@@ -137,7 +88,7 @@ columns_complete front more (c ∷ cs) none s =
     let b = names_begin front c cs s in
     let star : after (Sign symbol.Star) (front ++ more) ≡ None = ap (λ ls. after (Sign symbol.Star) (ls ++ more)) b.1 in
     ap (λ read. columns_behind read (front ++ more)) star
-    ∙ separated_complete IsName name_of name_complete name_shrinks front more (c ∷ cs) none s
+    ∙ separated_complete IsName name_of (Sign symbol.Comma) refl name_complete name_shrinks front more (c ∷ cs) none s
 
 -- how a SELECT is spelled
 select_spelled : (table : List ℕ) (items : List Lexeme) (columns : List (List ℕ)) → is_reserved_name table ≡ false → SpellsColumns items columns → SpellsStatement (Word (codes "select") ∷ (items ++ Word (codes "from") ∷ Word table ∷ [])) (Select table columns)
@@ -192,7 +143,7 @@ form_complete front more (Insert table values) s =
     let regrouped = append_assoc s.inner (Sign symbol.Close ∷ []) more in
     ap (λ ls. form_of (ls ++ more)) (s.spelling ∙ named)
     ∙ ap (λ ls. form_of (Word (codes "insert") ∷ Word (codes "into") ∷ Word table ∷ Word (codes "values") ∷ Sign symbol.Open ∷ ls)) regrouped
-    ∙ insert_complete table s.inner more values s.is_name.1 (separated_complete SpellsLiteral literal_of literal_complete literal_shrinks s.inner (Sign symbol.Close ∷ more) values (no_comma_close more) s.are_values)
+    ∙ insert_complete table s.inner more values s.is_name.1 (separated_complete SpellsLiteral literal_of (Sign symbol.Comma) refl literal_complete literal_shrinks s.inner (Sign symbol.Close ∷ more) values (no_comma_close more) s.are_values)
 form_complete front more (Select table columns) s =
     let named = ap (λ name. Word (codes "select") ∷ (s.items ++ Word (codes "from") ∷ name)) s.is_name.0 in
     let regrouped = append_assoc s.items (Word (codes "from") ∷ Word table ∷ []) more in
@@ -281,19 +232,19 @@ def_complete front more def s =
 -- CREATE TABLE
 
 -- how a CREATE TABLE is spelled
-table_spelled : (table : List ℕ) (inner : List Lexeme) (columns : List Def) → is_reserved_name table ≡ false → Separated SpellsDef (Sign symbol.Comma) inner columns → SpellsCommand (Word (codes "create") ∷ Word (codes "table") ∷ Word table ∷ Sign symbol.Open ∷ (inner ++ Sign symbol.Close ∷ [])) (CreateTable table columns)
+table_spelled : (table : List ℕ) (inner : List Lexeme) (columns : List SimpleDef) → is_reserved_name table ≡ false → Separated SpellsDef (Sign symbol.Comma) inner columns → SpellsCommand (Word (codes "create") ∷ Word (codes "table") ∷ Word table ∷ Sign symbol.Open ∷ (inner ++ Sign symbol.Close ∷ [])) (CreateTable table columns)
 table_spelled table inner columns free s = record { name = Word table ∷ []; inner = inner; spelling = refl; is_name = (refl, free); are_columns = s }
 
 -- what is read behind CREATE TABLE is spelled so
-table_sound : (lexemes create left rest : List Lexeme) (command : AdminCmd) → lexemes ≡ Word (codes "create") ∷ create → create ≡ Word (codes "table") ∷ left → table_of left ≡ Some (command, rest) → Begins SpellsCommand lexemes rest command
+table_sound : (lexemes create left rest : List Lexeme) (command : SimpleCmd) → lexemes ≡ Word (codes "create") ∷ create → create ≡ Word (codes "table") ∷ left → table_of left ≡ Some (command, rest) → Begins SpellsCommand lexemes rest command
 unfolding table_of
 table_sound lexemes create left rest command h i e =
     let a = bind_some (name_of left) _ (command, rest) e in
     let b = bind_some (after (Sign symbol.Open) a.0.1) _ (command, rest) a.2 in
-    let c = bind_some (separated_of def_of b.0) _ (command, rest) b.2 in
+    let c = bind_some (separated_of def_of (Sign symbol.Comma) b.0) _ (command, rest) b.2 in
     let d = bind_some (after (Sign symbol.Close) c.0.1) _ (command, rest) c.2 in
     let n = name_is left a.0.1 a.0.0 a.1 in
-    let v = separated_sound SpellsDef def_of def_sound b.0 c.0.1 c.0.0 c.1 in
+    let v = separated_sound SpellsDef def_of (Sign symbol.Comma) def_sound b.0 c.0.1 c.0.0 c.1 in
     let front = Word (codes "create") ∷ Word (codes "table") ∷ Word a.0.0 ∷ Sign symbol.Open ∷ (v.front ++ Sign symbol.Close ∷ []) in
     record {
       front = front;
@@ -304,14 +255,14 @@ table_sound lexemes create left rest command h i e =
     }
 
 -- a CREATE TABLE is read
-table_complete : (table : List ℕ) (inner more : List Lexeme) (columns : List Def) → is_reserved_name table ≡ false → separated_of def_of (inner ++ Sign symbol.Close ∷ more) ≡ Some (columns, Sign symbol.Close ∷ more) → create_of (Word (codes "create") ∷ Word (codes "table") ∷ Word table ∷ Sign symbol.Open ∷ (inner ++ Sign symbol.Close ∷ more)) ≡ Some (CreateTable table columns, more)
+table_complete : (table : List ℕ) (inner more : List Lexeme) (columns : List SimpleDef) → is_reserved_name table ≡ false → separated_of def_of (Sign symbol.Comma) (inner ++ Sign symbol.Close ∷ more) ≡ Some (columns, Sign symbol.Close ∷ more) → create_of (Word (codes "create") ∷ Word (codes "table") ∷ Word table ∷ Sign symbol.Open ∷ (inner ++ Sign symbol.Close ∷ more)) ≡ Some (CreateTable table columns, more)
 unfolding create_of table_of after name_of
 table_complete table inner more columns free read = rw (free, read) refl
 
 -- CREATE TENANT
 
 -- what is read behind CREATE, where no TABLE follows, is a tenant
-tenant_sound : (lexemes create rest : List Lexeme) (command : AdminCmd) → lexemes ≡ Word (codes "create") ∷ create → tenant_of create ≡ Some (command, rest) → Begins SpellsCommand lexemes rest command
+tenant_sound : (lexemes create rest : List Lexeme) (command : SimpleCmd) → lexemes ≡ Word (codes "create") ∷ create → tenant_of create ≡ Some (command, rest) → Begins SpellsCommand lexemes rest command
 unfolding tenant_of
 tenant_sound lexemes create rest command h e =
     let a = bind_some (after (Word (codes "tenant")) create) _ (command, rest) e in
@@ -345,15 +296,15 @@ create_complete front more (CreateTable table columns) s =
     let regrouped = append_assoc s.inner (Sign symbol.Close ∷ []) more in
     ap (λ ls. create_of (ls ++ more)) (s.spelling ∙ named)
     ∙ ap (λ ls. create_of (Word (codes "create") ∷ Word (codes "table") ∷ Word table ∷ Sign symbol.Open ∷ ls)) regrouped
-    ∙ table_complete table s.inner more columns s.is_name.1 (separated_complete SpellsDef def_of def_complete def_shrinks s.inner (Sign symbol.Close ∷ more) columns (no_comma_close more) s.are_columns)
+    ∙ table_complete table s.inner more columns s.is_name.1 (separated_complete SpellsDef def_of (Sign symbol.Comma) refl def_complete def_shrinks s.inner (Sign symbol.Close ∷ more) columns (no_comma_close more) s.are_columns)
 create_complete front more (CreateTenant tenant quota) s = rw s refl
 
 -- what is read is a command
-pub command_sound : (lexemes : List Lexeme) (command : AdminCmd) → command_of lexemes ≡ Some command → WithSemicolon SpellsCommand lexemes command
+pub command_sound : (lexemes : List Lexeme) (command : SimpleCmd) → command_of lexemes ≡ Some command → WithSemicolon SpellsCommand lexemes command
 unfolding command_of
 command_sound lexemes command e = ended_sound SpellsCommand create_of create_sound lexemes command e
 
 -- a command is read
-pub command_complete : (lexemes : List Lexeme) (command : AdminCmd) → WithSemicolon SpellsCommand lexemes command → command_of lexemes ≡ Some command
+pub command_complete : (lexemes : List Lexeme) (command : SimpleCmd) → WithSemicolon SpellsCommand lexemes command → command_of lexemes ≡ Some command
 unfolding command_of
 command_complete lexemes command s = ended_complete SpellsCommand create_of create_complete lexemes command s

@@ -8,13 +8,13 @@ use Rattle.mt_lexer.specs.Tokens as lexer
 use Rattle.mt_lexer.specs.Tokens.{Lexeme, HasNoTokenAt}
 use Rattle.mt_grammar.specs.declared.simple.SimpleFault.{SimpleFault}
 use Rattle.mt_grammar.specs.declared.simple.SimpleFault.TheVariants as fault
-use Rattle.mt_grammar.specs.Forms.{Form, WithSemicolon}
+use Rattle.mt_reader.specs.Forms.{Form, WithSemicolon}
 use Rattle.mt_grammar.specs.Lexing.{FaultOf}
 use Rattle.mt_grammar.specs.Outcome.{Gives}
-use Rattle.mt_grammar.specs.Pieces.{lexeme_at}
+use Rattle.mt_reader.specs.Pieces.{lexeme_at}
 use Rattle.mt_grammar.specs.Reading.{Reads}
 use Rattle.mt_grammar.specs.Taken.{Answers}
-use Rattle.mt_grammar.proofs.Lexemes.{tokens_say}
+use Rattle.mt_reader.proofs.Lexemes.{tokens_say}
 
 module _ {T : Type 0} (form : Form T) (whole : List Lexeme → Option T) (complete : (lexemes : List Lexeme) (tree : T) → WithSemicolon form lexemes tree → whole lexemes ≡ Some tree) where
   -- what a text reads as is what its lexemes do

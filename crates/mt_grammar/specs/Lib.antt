@@ -1,10 +1,8 @@
 pub mod Descent
-pub mod Forms
 pub mod Lexing
-pub mod Names
 pub mod Outcome
-pub mod Pieces
 pub mod Reading
 pub mod Shrinking
 pub mod Simple
 pub mod Taken
+pub use Rattle.mt_reader.specs.Forms

@@ -2,7 +2,7 @@
 use Rattle.std.specs.Prelude.{ℕ, Result, Ok, Err, List}
 use Rattle.mt_grammar.specs.declared.simple.SimpleFault.{SimpleFault}
 use Rattle.mt_grammar.specs.declared.simple.SimpleFault.TheVariants as fault
-use Rattle.mt_grammar.specs.Forms.{Form}
+use Rattle.mt_reader.specs.Forms.{Form}
 use Rattle.mt_grammar.specs.Reading.{IsSaid, Unserved, Outside, Says}
 
 -- the tree where the text says one, or why not; want of memory says nothing

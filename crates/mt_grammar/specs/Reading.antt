@@ -3,7 +3,7 @@ use Rattle.std.specs.Prelude.{ℕ, List}
 use Rattle.mt_lexer.specs.declared.token.Token.{Token}
 use Rattle.mt_lexer.specs.Tokens as lexer
 use Rattle.mt_lexer.specs.Tokens.{Lexeme}
-use Rattle.mt_grammar.specs.Forms.{Form, WithSemicolon}
+use Rattle.mt_reader.specs.Forms.{Form, WithSemicolon}
 
 -- the text has the form, perhaps with a semicolon at the end, and this tree
 pub record Reads {T : Type 0} (form : Form T) (text : List ℕ) (tree : T) : Type 0 where
@@ -20,6 +20,7 @@ pub data Said (T : Type 0) : Type 0 where
   Outside : Said T
   Says : (tree : T) → Said T
 
+-- what a text says under a form, and a test for numbers inside 64 bits
 abbrev pub IsSaid : {T : Type 0} → Form T → (T → Type 0) → List ℕ → Said T → Type 0
 IsSaid {T} form inside text Unserved = (tree : T) → Reads form text tree → ⊥
 IsSaid {T} form inside text Outside = (tree : T) × Reads form text tree × (inside tree → ⊥)

@@ -1,24 +1,18 @@
 -- The statements and commands that are served so far, over the tokens of a text.
-use Rattle.std.specs.Prelude.{◌≡◌, ◌⊎◌, ℕ, ◌^◌, ◌<◌, pos, neg_ℤ, ◌≤ℤ◌, ◌<ℤ◌, List, [], ◌∷◌, ◌++◌, All, codes}
-use Rattle.mt_lexer.specs.Tokens.{Lexeme, Word, Number, Quoted, Sign}
-use Rattle.mt_lexer.specs.declared.token.Symbol.TheVariants.{Open, Close, Comma, Star, Minus}
-use Rattle.mt_tree.specs.declared.statement.Literal.{Literal}
-use Rattle.mt_tree.specs.declared.statement.Literal.TheVariants.{Null, Int, Text}
-use Rattle.mt_tree.specs.declared.statement.SimpleStmt.{SimpleStmt}
-use Rattle.mt_tree.specs.declared.statement.SimpleStmt.TheVariants.{Insert, Select}
-use Rattle.mt_tree.specs.declared.command.AdminCmd.{AdminCmd}
-use Rattle.mt_tree.specs.declared.command.AdminCmd.TheVariants.{CreateTable, CreateTenant}
-use Rattle.mt_tree.specs.declared.command.Def.{Def}
+use Rattle.std.specs.Prelude.{◌≡◌, ℕ, ◌<◌, List, [], ◌∷◌, ◌++◌, All, codes}
+use Rattle.mt_lexer.specs.Tokens.{Lexeme, Word, Number, Sign}
+use Rattle.mt_lexer.specs.declared.token.Symbol.TheVariants.{Open, Close, Comma, Star}
+use Rattle.mt_tree.specs.declared.expression.Literal.{Literal}
+use Rattle.mt_tree.specs.declared.simple.SimpleStmt.{SimpleStmt}
+use Rattle.mt_tree.specs.declared.simple.SimpleStmt.TheVariants.{Insert, Select}
+use Rattle.mt_tree.specs.declared.simple.SimpleCmd.{SimpleCmd}
+use Rattle.mt_tree.specs.declared.simple.SimpleCmd.TheVariants.{CreateTable, CreateTenant}
+use Rattle.mt_tree.specs.declared.simple.SimpleDef.{SimpleDef}
 use Rattle.mt_tree.specs.declared.command.DefKind.{DefKind}
 use Rattle.mt_tree.specs.declared.command.DefKind.TheVariants.{Integer, Varchar}
-use Rattle.mt_grammar.specs.Forms.{Separated}
-use Rattle.mt_grammar.specs.Names.{IsName}
-
--- a number, perhaps with a minus sign, a text, or NULL
-abbrev pub SpellsLiteral : List Lexeme → Literal → Type 0
-SpellsLiteral tokens Null = tokens ≡ Word (codes "null") ∷ []
-SpellsLiteral tokens (Int z) = (n : ℕ) × (((tokens ≡ Number n ∷ []) × (z ≡ pos n)) ⊎ ((tokens ≡ Sign Minus ∷ Number n ∷ []) × (z ≡ neg_ℤ (pos n))))
-SpellsLiteral tokens (Text text) = tokens ≡ Quoted text ∷ []
+use Rattle.mt_reader.specs.Forms.{Separated}
+use Rattle.mt_reader.specs.Literals.{SpellsLiteral, limit_64, IsLiteralInside}
+use Rattle.mt_reader.specs.Names.{IsName}
 
 -- INSERT INTO table VALUES (literal, ..)
 pub record SpellsInsert (tokens : List Lexeme) (table : List ℕ) (values : List Literal) : Type 0 where
@@ -41,20 +35,12 @@ pub record SpellsSelect (tokens : List Lexeme) (table : List ℕ) (columns : Lis
   pub are_columns : SpellsColumns items columns
   pub is_name : IsName name table
 
+-- the statements that are served
 abbrev pub SpellsStatement : List Lexeme → SimpleStmt → Type 0
 SpellsStatement tokens (Insert table values) = SpellsInsert tokens table values
 SpellsStatement tokens (Select table columns) = SpellsSelect tokens table columns
 
--- every number of a command is at most 2^63 - 1, also where its limits are narrower
-abbrev pub limit_64 : ℕ
-limit_64 = 2 ^ 63
-
--- each number is inside 64 bits
-abbrev pub IsLiteralInside : Literal → Type 0
-IsLiteralInside Null = Unit {0}
-IsLiteralInside (Int z) = (neg_ℤ (pos limit_64) ≤ℤ z) × (z <ℤ pos limit_64)
-IsLiteralInside (Text text) = Unit {0}
-
+-- each number of a statement is inside 64 bits
 abbrev pub IsInside : SimpleStmt → Type 0
 IsInside (Insert table values) = All IsLiteralInside values
 IsInside (Select table columns) = Unit {0}
@@ -65,7 +51,7 @@ SpellsKind tokens Integer = tokens ≡ Word (codes "integer") ∷ []
 SpellsKind tokens (Varchar size) = tokens ≡ Word (codes "varchar") ∷ Sign Open ∷ Number size ∷ Sign Close ∷ []
 
 -- the name of a column, and its kind
-pub record SpellsDef (tokens : List Lexeme) (def : Def) : Type 0 where
+pub record SpellsDef (tokens : List Lexeme) (def : SimpleDef) : Type 0 where
   pub name : List Lexeme
   pub kind : List Lexeme
   pub spelling : tokens ≡ name ++ kind
@@ -73,21 +59,24 @@ pub record SpellsDef (tokens : List Lexeme) (def : Def) : Type 0 where
   pub is_kind : SpellsKind kind def.kind
 
 -- CREATE TABLE name (column, ..)
-pub record SpellsCreateTable (tokens : List Lexeme) (table : List ℕ) (columns : List Def) : Type 0 where
+pub record SpellsCreateTable (tokens : List Lexeme) (table : List ℕ) (columns : List SimpleDef) : Type 0 where
   pub name : List Lexeme
   pub inner : List Lexeme
   pub spelling : tokens ≡ Word (codes "create") ∷ Word (codes "table") ∷ (name ++ Sign Open ∷ (inner ++ Sign Close ∷ []))
   pub is_name : IsName name table
   pub are_columns : Separated SpellsDef (Sign Comma) inner columns
 
-abbrev pub SpellsCommand : List Lexeme → AdminCmd → Type 0
+-- the commands that are served
+abbrev pub SpellsCommand : List Lexeme → SimpleCmd → Type 0
 SpellsCommand tokens (CreateTable name columns) = SpellsCreateTable tokens name columns
 SpellsCommand tokens (CreateTenant tenant quota) = tokens ≡ Word (codes "create") ∷ Word (codes "tenant") ∷ Number tenant ∷ Word (codes "quota") ∷ Number quota ∷ []
 
+-- the size of a VARCHAR is inside 64 bits
 abbrev pub IsKindInside : DefKind → Type 0
 IsKindInside Integer = Unit {0}
 IsKindInside (Varchar size) = size < limit_64
 
-abbrev pub IsCommandInside : AdminCmd → Type 0
+-- each number of a command is inside 64 bits
+abbrev pub IsCommandInside : SimpleCmd → Type 0
 IsCommandInside (CreateTable name columns) = All (λ def. IsKindInside def.kind) columns
 IsCommandInside (CreateTenant tenant quota) = (tenant < limit_64) × (quota < limit_64)

@@ -4,19 +4,12 @@
 #![tactic(auto)]
 
 mod command;
-mod digits;
-mod item;
 mod laws;
-mod literal;
-mod piece;
-mod reader;
 mod simple;
 mod statement;
-mod word;
 
 pub use laws::{each_text_says_something, simple_readings_are_determined};
 pub use simple::{SimpleFault, simple_command, simple_statement};
-pub use word::is_reserved;
 
 #[cfg(test)]
 mod tests;

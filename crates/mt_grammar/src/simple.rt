@@ -4,11 +4,11 @@ ghost use Rattle.mt_grammar.specs.Outcome.{Gives};
 ghost use Rattle.mt_grammar.specs.Simple.{SpellsStatement, IsInside, SpellsCommand, IsCommandInside};
 
 use crate::command::command;
-use crate::reader::Reader;
 use crate::statement::statement;
 use mt_lexer::{LexFault, tokens};
-use mt_tree::{AdminCmd, SimpleStmt};
-use std::alloc::{AllocError, Global};
+use mt_reader::{ReadFault, Reader};
+use mt_tree::{SimpleCmd, SimpleStmt};
+use std::alloc::Global;
 use thiserror::Error;
 
 /// Why a text gives no tree.
@@ -24,14 +24,17 @@ pub enum SimpleFault {
     Memory,
 }
 
-impl From<AllocError> for SimpleFault {
+impl From<ReadFault> for SimpleFault {
     ghost use Rattle.std.specs.Prelude.{◌≡◌};
-    ghost use Rattle.mt_grammar.specs.declared.simple.SimpleFault.TheVariants.{Memory};
+    ghost use Rattle.mt_grammar.specs.Taken.{simple_of};
 
-    ghost from_gives = { λ _ fault. fault ≡ Memory };
+    ghost from_gives = { λ fault answer. answer ≡ simple_of fault };
 
-    fn from(_: AllocError) -> SimpleFault {
-        SimpleFault::Memory
+    fn from(fault: ReadFault) -> SimpleFault {
+        match fault {
+            ReadFault::Unread => SimpleFault::Unserved,
+            ReadFault::Memory => SimpleFault::Memory,
+        }
     }
 }
 
@@ -41,10 +44,7 @@ impl From<LexFault> for SimpleFault {
     ghost from_gives = { FaultOf };
 
     fn from(fault: LexFault) -> SimpleFault {
-        match fault {
-            LexFault::Bad { .. } => SimpleFault::Unserved,
-            LexFault::Memory => SimpleFault::Memory,
-        }
+        SimpleFault::from(ReadFault::from(fault))
     }
 }
 
@@ -57,7 +57,7 @@ pub fn simple_statement(alloc: Global, text: &str) -> Result<SimpleStmt, SimpleF
 }
 
 /// The command that a text says, of those that are served so far.
-pub fn simple_command(alloc: Global, text: &str) -> Result<AdminCmd, SimpleFault>
+pub fn simple_command(alloc: Global, text: &str) -> Result<SimpleCmd, SimpleFault>
     ensures { Gives SpellsCommand IsCommandInside text.now result }
 {
     let found = tokens(alloc, text)?;

@@ -1,14 +1,13 @@
 ghost use Rattle.mt_grammar.specs.Descent.{insert_of, columns_of, select_of, form_of, statement_of};
 ghost use Rattle.mt_grammar.specs.Simple.{IsInside};
-ghost use Rattle.mt_grammar.specs.Taken.{TakesInside, Answers};
+ghost use Rattle.mt_reader.specs.Taken.{TakesInside};
+ghost use Rattle.mt_grammar.specs.Taken.{Answers};
 
 use crate::SimpleFault;
-use crate::item::separated;
-use crate::reader::Reader;
 use mt_lexer::Symbol;
 use mt_list::List;
-use mt_tree::{Literal, Names, SimpleStmt};
-use mt_value::Str;
+use mt_reader::{LiteralForm, NameForm, ReadFault, Reader, separated};
+use mt_tree::{Names, SimpleStmt};
 use std::alloc::Global;
 
 /// The statement that is left, and nothing behind it.
@@ -23,7 +22,7 @@ pub(crate) fn statement(alloc: Global, mut reader: Reader<'_>) -> Result<SimpleS
 
 /// Takes a statement; `None` is for a number outside 64 bits, here and below.
 #[tactic(auto, unfolding(crate::specs::Descent::form_of))]
-fn form(alloc: Global, reader: &mut Reader<'_>) -> Result<Option<SimpleStmt>, SimpleFault>
+fn form(alloc: Global, reader: &mut Reader<'_>) -> Result<Option<SimpleStmt>, ReadFault>
     ensures { TakesInside IsInside result reader.new (form_of reader.old) }
 {
     if reader.takes_word(b"insert") {
@@ -35,14 +34,14 @@ fn form(alloc: Global, reader: &mut Reader<'_>) -> Result<Option<SimpleStmt>, Si
 
 /// Takes what stands behind INSERT.
 #[tactic(auto, unfolding(crate::specs::Descent::insert_of))]
-fn insert(alloc: Global, reader: &mut Reader<'_>) -> Result<Option<SimpleStmt>, SimpleFault>
+fn insert(alloc: Global, reader: &mut Reader<'_>) -> Result<Option<SimpleStmt>, ReadFault>
     ensures { TakesInside IsInside result reader.new (insert_of reader.old) }
 {
     reader.word(b"into")?;
     let table = reader.name(alloc)?;
     reader.word(b"values")?;
     reader.symbol(Symbol::Open)?;
-    let values = separated::<Literal>(alloc, reader)?;
+    let values = separated::<LiteralForm>(alloc, reader)?;
     reader.symbol(Symbol::Close)?;
     match values {
         Some(values) => Ok(Some(SimpleStmt::Insert { table, values })),
@@ -52,7 +51,7 @@ fn insert(alloc: Global, reader: &mut Reader<'_>) -> Result<Option<SimpleStmt>, 
 
 /// Takes a SELECT.
 #[tactic(auto, unfolding(crate::specs::Descent::select_of))]
-fn select(alloc: Global, reader: &mut Reader<'_>) -> Result<Option<SimpleStmt>, SimpleFault>
+fn select(alloc: Global, reader: &mut Reader<'_>) -> Result<Option<SimpleStmt>, ReadFault>
     ensures { TakesInside IsInside result reader.new (select_of reader.old) }
 {
     reader.word(b"select")?;
@@ -67,11 +66,11 @@ fn select(alloc: Global, reader: &mut Reader<'_>) -> Result<Option<SimpleStmt>, 
 
 /// Takes the star, as no names, or names with commas between.
 #[tactic(auto, unfolding(crate::specs::Descent::columns_of))]
-fn columns(alloc: Global, reader: &mut Reader<'_>) -> Result<Option<Names>, SimpleFault>
+fn columns(alloc: Global, reader: &mut Reader<'_>) -> Result<Option<Names>, ReadFault>
     ensures { TakesInside (λ _. Unit {0}) result reader.new (columns_of reader.old) }
 {
     if reader.takes_symbol(Symbol::Star) {
         return Ok(Some(List::new(alloc)));
     }
-    separated::<Str>(alloc, reader)
+    separated::<NameForm>(alloc, reader)
 }

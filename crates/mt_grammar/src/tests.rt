@@ -1,8 +1,6 @@
-use crate::{
-    SimpleFault, is_reserved, simple_command, simple_readings_are_determined, simple_statement,
-};
+use crate::{SimpleFault, simple_command, simple_readings_are_determined, simple_statement};
 use mt_list::List;
-use mt_tree::{AdminCmd, Def, DefKind, Literal, SimpleStmt};
+use mt_tree::{DefKind, Literal, SimpleCmd, SimpleDef, SimpleStmt};
 use mt_value::Str;
 use std::alloc::{AllocError, Global};
 use std::test::Fail;
@@ -48,20 +46,20 @@ fn show_names(out: &mut String, names: &List<Str>) -> Result<(), AllocError> {
 }
 
 /// A command in few words, with all of its parts.
-fn shown_command(alloc: Global, command: &AdminCmd) -> Result<String, AllocError> {
+fn shown_command(alloc: Global, command: &SimpleCmd) -> Result<String, AllocError> {
     let mut out = String::new(alloc);
     match command {
-        AdminCmd::CreateTable { name, columns } => {
+        SimpleCmd::CreateTable { name, columns } => {
             out.push_str("table ")?;
             out.push_str(name.as_str())?;
             show_columns(&mut out, columns)?;
         }
-        AdminCmd::CreateTenant { tenant, quota } => write!(out, "tenant {tenant} {quota}")?,
+        SimpleCmd::CreateTenant { tenant, quota } => write!(out, "tenant {tenant} {quota}")?,
     }
     Ok(out)
 }
 
-fn show_columns(out: &mut String, columns: &List<Def>) -> Result<(), AllocError> {
+fn show_columns(out: &mut String, columns: &List<SimpleDef>) -> Result<(), AllocError> {
     for column in columns.as_slice() {
         out.push_str(" ")?;
         out.push_str(column.name.as_str())?;
@@ -203,15 +201,5 @@ fn refuses_commands(rt: HostRuntime) {
     for text in table {
         let answer = simple_command(rt.alloc(), text).err();
         assert_eq!(rt; answer, Some(SimpleFault::Unserved), "of {text}");
-    }
-}
-
-#[test]
-fn knows_reserved_words(rt: HostRuntime) {
-    for word in ["and", "SELECT", "Values", "wHERE"] {
-        assert!(rt; is_reserved(word.as_bytes()), "{word} is reserved");
-    }
-    for word in ["", "an", "create", "table", "tenant", "quota", "selects"] {
-        assert!(rt; !is_reserved(word.as_bytes()), "{word} is a name");
     }
 }

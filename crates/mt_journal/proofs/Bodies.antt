@@ -9,7 +9,7 @@ use Rattle.mt_machine.specs.Calls.{Writes}
 use Rattle.mt_journal.specs.Layout.{Range}
 use Rattle.mt_journal.specs.Spelling.{Fits}
 use Rattle.mt_journal.specs.Steps.{IsQuiet, Among, AllAmong, Places, ArePlaced}
-use Rattle.mt_journal.proofs.Leaving.{write_changes}
+use Rattle.mt_journal.proofs.Torn.{write_changes}
 use Rattle.mt_journal.proofs.Replaying.{among_left, with_range_written}
 use Rattle.mt_journal.proofs.Placing.{quiet_leaves, quiet_join, places_more, places_join, placed_join, places_changes}
 

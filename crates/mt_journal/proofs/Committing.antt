@@ -16,9 +16,9 @@ use Rattle.mt_journal.specs.Chain.{IsChain, StandGroups}
 use Rattle.mt_journal.specs.Replay.{with_ranges, all_ranges, Replays}
 use Rattle.mt_journal.specs.Commits.{StandsFor, Committed, ReplaysToEither, payload_size}
 use Rattle.mt_journal.specs.Spelling.{Fits, spelling_of_range, spelling_of}
-use Rattle.mt_journal.specs.Steps.{IsQuiet, IsDurable, TornFrom, Changes, IsBehind, SameReplay, Places, ArePlaced, Among}
+use Rattle.mt_journal.specs.Steps.{IsQuiet, IsDurable, Changes, IsBehind, SameReplay, Places, ArePlaced, Among}
 use Rattle.mt_journal.proofs.Chains.{chain_same, groups_push, groups_same}
-use Rattle.mt_journal.proofs.Leaving.{leaves_join, leaves_weaker}
+use Rattle.mt_machine.specs.LeavesLaws.{leaves_then, leaves_weaker}
 use Rattle.mt_journal.proofs.Numbers.{number_stands, number_above}
 use Rattle.mt_journal.proofs.Replaying.{all_ranges_push, among_right, replays_to, same_none, same_replays, with_ranges-append}
 use Rattle.mt_journal.proofs.Recovering.{leaves_told}
@@ -158,7 +158,7 @@ module _ (tail : ℕ) (ranges : List Range) (old written : Meaning) (n : ℕ) (s
     (writes : Changes Log (tail + 1) n old written) where
   -- what a stop leaves before the gate is written
   pub written_leaves : Leaves (ReplaysToEither (old.content Pages) (with_ranges ranges (old.content Pages))) old written
-  written_leaves = leaves_weaker (TornFrom Log (tail + 1) n old) _ old written writes.leaves (λ t image torn.
+  written_leaves = leaves_weaker _ writes.leaves (λ t image torn.
       let told = writes.leaves.told_moments t in
       let chain = stands.content (writes.leaves.told told.1) in
       inl (torn_behind torn.0 image (old.content Pages) chain.0 tail n (stands.chains told.0 torn.0 torn.1 chain.0 chain.1) (stands.replays told.0 torn.0 torn.1) torn.2))
@@ -176,7 +176,7 @@ module _ (tail : ℕ) (ranges : List Range) (old written : Meaning) (n : ℕ) (s
 
     -- what a stop leaves while the gate is written
     pub opened_leaves : Leaves (ReplaysToEither (old.content Pages) (with_ranges ranges (old.content Pages))) old opened_at
-    opened_leaves = leaves_join _ (TornFrom Log tail 1 written) old written opened_at written_leaves opens.leaves (λ t image torn.
+    opened_leaves = leaves_then written_leaves opens.leaves (λ t image torn.
         let told_written = opens.leaves.told_moments t in
         let at_written = opens.leaves.told told_written.1 in
         let told_old = writes.leaves.told_moments told_written.0 in
@@ -222,9 +222,9 @@ module _ (tail : ℕ) (ranges : List Range) (old written : Meaning) (n : ℕ) (s
           let told = quiet.told_moments t in
           let at_open = quiet.told told.1 in
           let chain = old_chain at_open in
-          leaves_weaker (SameReplay (all_ranges (chain.0 ++ ranges ∷ [])) opened_at.content) has opened_at new (placed_same chain.0)
+          leaves_weaker has (placed_same chain.0)
           (λ _ image same. inr (placed_replays told.0 at_open chain.0 chain.1 image same))) in
-          leaves_join has has old opened_at new opened_leaves since (λ _ _ has_it. has_it)
+          leaves_then opened_leaves since (λ _ _ has_it. has_it)
 
       module _ (new_tail : ℕ) (tail_is : new_tail ≡ tail + 9 + payload_size ranges) (placed : ArePlaced ranges opened_at new) where
         new_pages : IsTrue new.tells → new.content Pages ≡ with_ranges ranges (old.content Pages)

@@ -11,7 +11,7 @@ use Rattle.mt_journal.specs.Chain.{IsChain, StandGroups}
 use Rattle.mt_journal.specs.Replay.{with_ranges, all_ranges, Replays}
 use Rattle.mt_journal.specs.Commits.{StandsFor, Emptied, ReplaysTo}
 use Rattle.mt_journal.specs.Steps.{IsDurable, OldOrFirstGate, ClosesFirst}
-use Rattle.mt_journal.proofs.Leaving.{leaves_weaker}
+use Rattle.mt_machine.specs.LeavesLaws.{leaves_weaker}
 
 -- a chain that ends behind the first gate begins at an open one
 groups_open : (log : layout.Area) (groups : List (List Range)) (tail : ℕ) → StandGroups log 0 groups tail → (tail ≡ 0 → ⊥) → IsOpen log 0
@@ -27,10 +27,6 @@ closed_chain log closed = record { groups_stand = refl; closed = closed }
 
 pub closed_replays : (disk : Disk) → (IsOpen (disk Log) 0 → ⊥) → Replays disk (disk Pages)
 closed_replays disk closed = record { groups = []; tail = 0; chain = closed_chain (disk Log) closed; replayed = refl }
-
--- a chain that ends at the first gate has no group
-pub chain_none : (log : layout.Area) (groups : List (List Range)) (tail : ℕ) → IsChain log groups tail → tail ≡ 0 → IsChain log [] 0
-chain_none log groups tail chain none = closed_chain log (λ gate. chain.closed (subst (IsOpen log) (sym none) gate))
 
 -- a disk whose pages have all ranges of its log replays as itself with any byte in the first gate
 pub first_gate : (start image : Disk) (pages : layout.Area) → Torn Log 0 1 start image → IsOpen (start Log) 0 → Replays start pages → start Pages ≡ pages → Replays image pages
@@ -65,7 +61,7 @@ closes_gate old new closes t gate = let shut = closes.closed t in omega (arith, 
 pub reset_leaves : (tail : ℕ) (old new : Meaning) → StandsFor tail old → (tail ≡ 0 → ⊥) → (IsTrue old.tells_moments → old.images old.content) → Leaves (OldOrFirstGate old) old new
     → Leaves (ReplaysTo (old.content Pages)) old new
 reset_leaves tail old new stands some content leaves =
-    leaves_weaker (OldOrFirstGate old) (ReplaysTo (old.content Pages)) old new leaves (λ t image arises.
+    leaves_weaker (ReplaysTo (old.content Pages)) leaves (λ t image arises.
     let told = leaves.told_moments t in
     let chain = stands.content (leaves.told told.1) in
     ⊎_elim (λ before. stands.replays told.0 image before)

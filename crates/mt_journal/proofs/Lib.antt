@@ -1,4 +1,3 @@
-pub mod Leaving
 pub mod Torn
 pub mod Walks
 pub mod Behind

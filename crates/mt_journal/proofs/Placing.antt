@@ -7,31 +7,31 @@ use Rattle.mt_journal.specs.declared.group.RangeAt.{RangeAt}
 use Rattle.mt_journal.specs.Layout.{Area, Range, IsRangeAt}
 use Rattle.mt_journal.specs.Groups.{IsRead}
 use Rattle.mt_journal.specs.Replay.{with_ranges}
-use Rattle.mt_journal.specs.Steps.{IsQuiet, TornFrom, Changes, IsCopied, AllAmong, SameReplay, Places, ArePlaced}
+use Rattle.mt_journal.specs.Steps.{IsQuiet, Changes, IsCopied, AllAmong, SameReplay, Places, ArePlaced}
 use Rattle.mt_journal.specs.Walk.{ToldRange}
 use Rattle.mt_journal.proofs.Chains.{range_unique}
-use Rattle.mt_journal.proofs.Leaving.{leaves_join, leaves_weaker}
+use Rattle.mt_machine.specs.LeavesLaws.{leaves_then, leaves_weaker}
 use Rattle.mt_journal.proofs.Replaying.{same_torn, with_range_written, with_ranges-append, among_left, among_right}
 
 -- what leaves disks of some property puts nothing out
 pub quiet_leaves : (has : Disk → Type 0) (old new : Meaning) → Leaves has old new → IsQuiet old new
-quiet_leaves has old new leaves = leaves_weaker has (λ _. Unit {0}) old new leaves (λ _ _ _. tt)
+quiet_leaves has old new leaves = leaves_weaker (λ _. Unit {0}) leaves (λ _ _ _. tt)
 
 pub quiet_join : (first second third : Meaning) → IsQuiet first second → IsQuiet second third → IsQuiet first third
-quiet_join first second third one two = leaves_join (λ _. Unit {0}) (λ _. Unit {0}) first second third one two (λ _ _ _. tt)
+quiet_join first second third one two = leaves_then one two (λ _ _ _. tt)
 
 -- a look writes no range
 pub places_looks : (ranges : List Range) (old new : Meaning) → Looks old new → Places ranges old new
 places_looks ranges old new looks = record {
   log = λ t. ap (λ (d : Disk). d Log) (looks.content t);
-  leaves = λ all start among same. leaves_weaker old.images (SameReplay all start) old new looks.leaves (λ t image arises. same (looks.leaves.told_moments t).0 image arises);
+  leaves = λ all start among same. leaves_weaker (SameReplay all start) looks.leaves (λ t image arises. same (looks.leaves.told_moments t).0 image arises);
 }
 
 -- where a machine tells nothing, there is nothing to say
 pub places_untold : (ranges : List Range) (old new : Meaning) → IsQuiet old new → (IsTrue new.tells → ⊥) → Places ranges old new
 places_untold ranges old new quiet untold = record {
   log = λ t. absurd (untold t);
-  leaves = λ all start among same. leaves_weaker (λ _. Unit {0}) (SameReplay all start) old new quiet (λ t image _. absurd (untold (quiet.told_moments t).1));
+  leaves = λ all start among same. leaves_weaker (SameReplay all start) quiet (λ t image _. absurd (untold (quiet.told_moments t).1));
 }
 
 -- fewer ranges are some of more
@@ -48,7 +48,7 @@ places_join one two first second third quiet earlier later = record {
   leaves = λ all start among same.
       let before = earlier.leaves all start (λ range here. among range (among_left range one two here)) same in
       let behind = later.leaves all start (λ range here. among range (among_right range one two here)) before.now in
-      leaves_join (SameReplay all start) (SameReplay all start) first second third before behind (λ _ _ has. has);
+      leaves_then before behind (λ _ _ has. has);
 }
 
 pub placed_join : (one two : List Range) (first second third : Meaning) → IsQuiet second third → ArePlaced one first second → ArePlaced two second third → ArePlaced (one ++ two) first third
@@ -71,7 +71,7 @@ pub places_changes : (range : Range) (at n : ℕ) (old new : Meaning) → (IsTru
     → Places (range ∷ []) old new
 places_changes range at n old new within changes = record {
   log = λ t. (changes.content t).other Log (λ e. cc);
-  leaves = λ all start among same. leaves_weaker (TornFrom Pages at n old) (SameReplay all start) old new changes.leaves
+  leaves = λ all start among same. leaves_weaker (SameReplay all start) changes.leaves
       (λ t image torn.
       let told = changes.leaves.told_moments t in
       let place = within (changes.leaves.told told.1) in
@@ -88,9 +88,6 @@ module _ (old mid new : Meaning) (at end : ℕ) (read : RangeAt) (range : Range)
   places_copied =
       let within : IsTrue mid.tells → (range.position ≤ read.position) × (read.position + read.length ≤ range.position + length range.bytes) = λ t. let is = place_is t in (omega (arith, is.0), omega (arith, is.0, is.1)) in
       places_join [] (range ∷ []) old mid new (quiet_leaves _ mid new changes.leaves) (places_looks [] old mid looks) (places_changes range read.position read.length mid new within changes)
-
-  pub next_copied : IsTrue new.tells → read.next ≡ at + 12 + length range.bytes
-  next_copied t = (place_is (changes.leaves.told t)).3
 
   pub placed_copied : (IsTrue new.tells → IsCopied read.bytes_at read.position read.length mid.content new.content) → ArePlaced (range ∷ []) old new
   placed_copied copied t =

@@ -10,7 +10,7 @@ use Rattle.mt_journal.specs.Replay.{with_ranges, all_ranges, Replays}
 use Rattle.mt_journal.specs.Commits.{Recovered, OldOrReplays}
 use Rattle.mt_journal.specs.Steps.{IsQuiet, IsDurable, SameReplay, Places, ArePlaced, OldOrFirstGate, ClosesFirst}
 use Rattle.mt_journal.specs.Walk.{ToldChain}
-use Rattle.mt_journal.proofs.Leaving.{leaves_join, leaves_weaker}
+use Rattle.mt_machine.specs.LeavesLaws.{leaves_then, leaves_weaker}
 use Rattle.mt_journal.proofs.Replaying.{same_none, same_replays, replays_to}
 use Rattle.mt_journal.proofs.Emptying.{chain_open, closed_chain, first_gate, stands_closed, closes_gate}
 
@@ -62,11 +62,11 @@ module _ (old read new : Meaning) (end : ℕ) (looks : Looks old read) (durable 
   -- No stop while the ranges are written changes what the disk replays to.
   pub replay_leaves : Leaves (OldOrReplays old) old new
   replay_leaves =
-      let has_old = leaves_weaker old.images (OldOrReplays old) old read looks.leaves (λ t image arises. inl arises) in
+      let has_old = leaves_weaker (OldOrReplays old) looks.leaves (λ t image arises. inl arises) in
       let since = leaves_told (OldOrReplays old) read new quiet (λ moments.
       let t = quiet.told (quiet.told_moments moments).1 in
-      leaves_weaker (SameReplay (all_ranges (found t).0) read.content) (OldOrReplays old) read new (same_leaves t) (λ _ image same. inr (same_replayed t image same))) in
-      leaves_join (OldOrReplays old) (OldOrReplays old) old read new has_old since (λ _ _ has. has)
+      leaves_weaker (OldOrReplays old) (same_leaves t) (λ _ image same. inr (same_replayed t image same))) in
+      leaves_then has_old since (λ _ _ has. has)
 
   module _ (last : Meaning) (some : end ≡ 0 → ⊥) (placed : (groups : List (List Range)) → ToldChain read groups end → ArePlaced (all_ranges groups) read new) where
     pages_are : (t : IsTrue new.tells) → new.content Pages ≡ with_ranges (all_ranges (found (quiet.told t)).0) (read.content Pages)
@@ -77,7 +77,7 @@ module _ (old read new : Meaning) (end : ℕ) (looks : Looks old read) (durable 
 
     -- and none while the log is emptied
     pub close_leaves : (IsTrue new.tells_moments → new.images new.content) → Leaves (OldOrFirstGate new) new last → Leaves (OldOrReplays old) old last
-    close_leaves content leaves = leaves_join (OldOrReplays old) (OldOrFirstGate new) old new last replay_leaves leaves (λ moments image arises.
+    close_leaves content leaves = leaves_then replay_leaves leaves (λ moments image arises.
         let told = leaves.told_moments moments in
         let t = leaves.told told.1 in
         let before = quiet.told t in

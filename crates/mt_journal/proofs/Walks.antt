@@ -1,7 +1,7 @@
 -- A walk through a log that writes its ranges in their places: some are done, the rest stand ahead.
 use Rattle.std.proofs.Common.{◌≡◌, ℕ, ◌+◌, ◌<◌, ◌≤◌, IsTrue, List, [], ◌∷◌, ◌++◌, length, refl, sym, ap, ◌∙◌, subst, arith, inl, ⊎_elim, append_assoc}
 use Rattle.std.proofs.lemmas.List.{append-nil}
-use Rattle.mt_machine.specs.declared.machine.Area.TheVariants.{Log, Pages}
+use Rattle.mt_machine.specs.declared.machine.Area.TheVariants.{Log}
 use Rattle.mt_machine.specs.Meaning.{Disk, Meaning}
 use Rattle.mt_machine.specs.Leaves.{Looks}
 use Rattle.mt_journal.specs.declared.group.GroupAt.{GroupAt}
@@ -257,6 +257,3 @@ module _ (old mid new : Meaning) (at end : ℕ) (group : GroupAt) (ranges : List
 
   pub group_places : IsQuiet mid new → Places ranges mid new → Places ranges old new
   group_places quiet places = places_join [] ranges old mid new quiet (places_looks [] old mid looks) places
-
-  pub group_placed : IsQuiet mid new → ArePlaced ranges mid new → ArePlaced ranges old new
-  group_placed quiet placed = placed_join [] ranges old mid new quiet (λ t. ap (λ (d : Disk). d Pages) (looks.content t)) placed

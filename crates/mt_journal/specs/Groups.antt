@@ -22,6 +22,7 @@ pub record IsNoGroup (log : Area) (at : ℕ) : Type 0 where
   pub gate : IsOpen log at
   pub none : (ranges : List Range) (end : ℕ) → IsGroupAt log at ranges end → ⊥
 
+-- the group that begins here, none where the gate is closed, damage where an open gate has none
 abbrev pub FindsGroup : Result (Option GroupAt) RecoverFault → ℕ → Meaning → Meaning → Type 0
 FindsGroup (Ok (Some group)) at old new = IsTrue new.tells → IsPayload (old.content Log) at group
 FindsGroup (Ok None) at old new = IsTrue new.tells → IsOpen (old.content Log) at → ⊥
@@ -37,6 +38,7 @@ pub record IsRead (log : Area) (at : ℕ) (read : RangeAt) : Type 0 where
   pub bytes : read.bytes_at ≡ at + 12
   pub next : read.next ≡ at + 12 + length range.bytes
 
+-- the range that begins here
 abbrev pub FindsRange : Result RangeAt Failed → ℕ → Meaning → Meaning → Type 0
 FindsRange (Ok read) at old new = IsTrue new.tells → IsRead (old.content Log) at read
 FindsRange (Err e) at old new = Unit {0}

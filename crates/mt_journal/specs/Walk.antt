@@ -50,11 +50,14 @@ FindsChain (Err Disk) old new = Unit {0}
 abbrev pub ToldChain : Meaning → List (List Range) → ℕ → Type 0
 ToldChain machine groups end = IsTrue machine.tells → IsChain (machine.content Log) groups end
 
+-- a group, from its gate to its end
 abbrev pub ToldGroup : Meaning → ℕ → List Range → ℕ → Type 0
 ToldGroup machine at ranges end = IsTrue machine.tells → IsGroupAt (machine.content Log) at ranges end
 
+-- the ranges of a group, from the first to its end
 abbrev pub ToldRanges : Meaning → ℕ → List Range → ℕ → Type 0
 ToldRanges machine at ranges end = IsTrue machine.tells → AreRangesAt (machine.content Log) at ranges end
 
+-- one range that ends within its group
 abbrev pub ToldRange : Meaning → ℕ → Range → ℕ → Type 0
 ToldRange machine at range end = IsTrue machine.tells → IsRangeAt (machine.content Log) at range × (at + range_size range ≤ end)

@@ -9,12 +9,15 @@ use Rattle.mt_lexer.specs.declared.token.TokenKind.{TokenKind}
 use Rattle.mt_lexer.specs.declared.token.TokenKind.TheVariants as kind
 use Rattle.mt_lexer.specs.declared.token.Token.{Token}
 
+-- an ASCII capital letter
 abbrev pub is_upper : ℕ → Bool
 is_upper b = nat_le 65 b && nat_le b 90
 
+-- an ASCII small letter
 abbrev pub is_lower : ℕ → Bool
 is_lower b = nat_le 97 b && nat_le b 122
 
+-- an ASCII digit
 abbrev pub is_digit : ℕ → Bool
 is_digit b = nat_le 48 b && nat_le b 57
 
@@ -22,6 +25,7 @@ is_digit b = nat_le 48 b && nat_le b 57
 abbrev pub begins_word : ℕ → Bool
 begins_word b = is_upper b || is_lower b || (b == 95)
 
+-- what a word goes on with: a letter, the underscore or a digit
 abbrev pub is_in_word : ℕ → Bool
 is_in_word b = begins_word b || is_digit b
 
@@ -33,6 +37,7 @@ is_blank b = (b == 32) || (b == 9)
 abbrev pub lower : ℕ → ℕ
 lower b = if is_upper b then b + 32 else b
 
+-- how a symbol is written
 unfoldable pub symbol_bytes : Symbol → List ℕ
 symbol_bytes symbol.Open = codes "("
 symbol_bytes symbol.Close = codes ")"
@@ -67,6 +72,7 @@ Spells bytes (Number value) = (0 < length bytes) × AllPass is_digit bytes × (v
 Spells bytes (Quoted text) = bytes ≡ 39 ∷ (doubled text ++ 39 ∷ [])
 Spells bytes (Sign sign) = bytes ≡ symbol_bytes sign
 
+-- there is no first byte, or the test does not hold of it
 abbrev pub BeginsNoWith : (ℕ → Bool) → List ℕ → Type 0
 BeginsNoWith test [] = Unit {0}
 BeginsNoWith test (b ∷ bs) = test b ≡ false

@@ -54,6 +54,7 @@ WithinWrite area at n old image out = ((before : Disk) × old.images before × T
 abbrev pub WithinEmit : List ℕ → Meaning → Disk → List ℕ → Type 0
 WithinEmit bytes old image out = old.images image × PutsOutFront bytes old.output out
 
+-- what a read answers, and that it changes nothing but the count of faults
 pub record Reads {T E : Type 0} (result : Result T E) (area : Area) (at : ℕ) (buf : List ℕ) (old new : Meaning) : Type 0 where
   pub told : IsTrue new.tells → IsTrue old.tells
   pub content : IsTrue new.tells → new.content ≡ old.content
@@ -64,6 +65,7 @@ pub record Reads {T E : Type 0} (result : Result T E) (area : Area) (at : ℕ) (
   pub cause : HasCause old.disk_faults new.disk_faults result
   pub emit_faults : new.emit_faults ≡ old.emit_faults
 
+-- the bytes stand after a write that succeeds; after one that fails its range may hold anything
 pub record Writes {T E : Type 0} (result : Result T E) (area : Area) (at : ℕ) (bytes : List ℕ) (old new : Meaning) : Type 0 where
   pub told : IsTrue new.tells → IsTrue old.tells
   pub outside : IsTrue new.tells → Torn area at (length bytes) old.content new.content
@@ -74,6 +76,7 @@ pub record Writes {T E : Type 0} (result : Result T E) (area : Area) (at : ℕ) 
   pub cause : HasCause old.disk_faults new.disk_faults result
   pub emit_faults : new.emit_faults ≡ old.emit_faults
 
+-- a sync changes no content; where it succeeds, the content is durable
 pub record Syncs {T E : Type 0} (result : Result T E) (old new : Meaning) : Type 0 where
   pub told : IsTrue new.tells → IsTrue old.tells
   pub content : IsTrue new.tells → new.content ≡ old.content
@@ -85,6 +88,7 @@ pub record Syncs {T E : Type 0} (result : Result T E) (old new : Meaning) : Type
   pub cause : HasCause old.disk_faults new.disk_faults result
   pub emit_faults : new.emit_faults ≡ old.emit_faults
 
+-- all bytes are put out, or a front of them by an emit that fails
 pub record Emits {T E : Type 0} (result : Result T E) (bytes : List ℕ) (old new : Meaning) : Type 0 where
   pub told : IsTrue new.tells → IsTrue old.tells
   pub content : IsTrue new.tells → new.content ≡ old.content
@@ -95,6 +99,7 @@ pub record Emits {T E : Type 0} (result : Result T E) (bytes : List ℕ) (old ne
   pub cause : HasCause old.emit_faults new.emit_faults result
   pub disk_faults : new.disk_faults ≡ old.disk_faults
 
+-- a take moves a front of what is left into the buffer
 pub record Takes {E : Type 0} (result : Result ℕ E) (buf : List ℕ) (old new : Supply) : Type 0 where
   pub told : IsTrue new.tells → IsTrue old.tells
   pub count : IfOk result (λ n. n ≤ length buf)

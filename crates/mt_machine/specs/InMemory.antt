@@ -50,15 +50,19 @@ meaning_of run disk_faults emit_faults = record {
   emit_faults = emit_faults;
 }
 
+-- what a steady machine has done since it was made
 abbrev pub steady_run : SteadyMachine → Run
 steady_run machine = run_of machine.recording
 
+-- it tells everything, and nothing of it fails
 abbrev pub steady_meaning : SteadyMachine → Meaning
 steady_meaning machine = meaning_of (steady_run machine) 0 0
 
+-- what a machine that fails by list has done since it was made
 abbrev pub mem_run : MemMachine → Run
 mem_run machine = run_of machine.recording
 
+-- it tells everything, its faults among it
 abbrev pub mem_meaning : MemMachine → Meaning
 mem_meaning machine = meaning_of (mem_run machine) machine.disk_faults machine.emit_faults
 
@@ -95,8 +99,10 @@ emit_step (Err _) bytes = Emitted (take (length bytes / 2) bytes)
 abbrev pub supply_of : List ℕ → ℕ → Supply
 supply_of left faults = record { tells = true; left = left; faults = faults }
 
+-- a source that never fails
 abbrev pub steady_supply : SteadySource → Supply
 steady_supply source = supply_of source.cursor.left 0
 
+-- a source that fails by list, and counts its faults
 abbrev pub mem_supply : MemSource → Supply
 mem_supply source = supply_of source.cursor.left source.faults

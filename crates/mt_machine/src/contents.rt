@@ -18,6 +18,7 @@ impl Contents {
     ghost use Rattle.mt_machine.specs.Run.{with_bytes};
     ghost use Rattle.mt_machine.specs.Calls.{Stand};
 
+    /// The bytes of the two areas, each from its start; nothing is put out yet.
     pub fn new(alloc: Global, log: Bytes, pages: Bytes) -> Contents
         ensures content { image_disk result.image ≡ disk_of log pages }
         ensures output { result.output.items ≡ [] }
@@ -30,18 +31,21 @@ impl Contents {
         }
     }
 
+    /// The bytes of the two areas.
     pub fn image(&self) -> &Image
         ensures { result.now ≡ self.now.image }
     {
         &self.image
     }
 
+    /// All that was put out, in order.
     pub fn output(&self) -> &[u8]
         ensures { result.now ≡ self.now.output.items }
     {
         &self.output
     }
 
+    /// Whether it still tells what it holds.
     pub fn telling(&self) -> bool
         ensures { result ≡ self.now.telling }
     {
@@ -55,12 +59,15 @@ impl Contents {
         self.telling = false;
     }
 
+    /// Fills the buffer from the byte at `at` of an area, with zeros past the area's end.
     pub fn read(&self, area: Area, at: u64, buf: &mut [u8])
         ensures { Stand (image_disk self.now.image) area at buf.new }
     {
         self.image.read(area, at, buf)
     }
 
+    /// Writes the bytes at `at` of an area. A growth that finds no memory is no error: from then on it
+    /// tells nothing.
     pub fn write(&mut self, area: Area, at: u64, bytes: &[u8])
         ensures told { IsTrue self.new.telling → IsTrue self.old.telling }
         ensures content { IsTrue self.new.telling → image_disk self.new.image ≡ with_bytes area at bytes.now (image_disk self.old.image) }
@@ -71,6 +78,8 @@ impl Contents {
         }
     }
 
+    /// Puts the bytes out behind those that are out. A growth that finds no memory is no error: from
+    /// then on it tells nothing.
     pub fn emit(&mut self, bytes: &[u8])
         ensures told { IsTrue self.new.telling → IsTrue self.old.telling }
         ensures output { IsTrue self.new.telling → self.new.output.items ≡ self.old.output.items ++ bytes.now }

@@ -25,6 +25,7 @@ impl Model for Cursor {
 }
 
 impl Cursor {
+    /// The front of these bytes; `piece` is the most that one take gives, in bytes.
     pub fn new(bytes: Bytes, piece: usize) -> Cursor
         requires { 1 ≤ piece }
         ensures left { result.left ≡ bytes }

@@ -18,6 +18,7 @@ impl Image {
     ghost use Rattle.mt_machine.specs.Run.{with_bytes};
     ghost use Rattle.mt_machine.specs.Calls.{Stand};
 
+    /// The bytes of the two areas, each from its start.
     pub fn new(log: Bytes, pages: Bytes) -> Image
         ensures log { result.log.items ≡ log }
         ensures pages { result.pages.items ≡ pages }
@@ -28,12 +29,14 @@ impl Image {
         }
     }
 
+    /// The bytes of the log; zeros follow them without end.
     pub fn log(&self) -> &[u8]
         ensures { result.now ≡ self.now.log.items }
     {
         &self.log
     }
 
+    /// The bytes of the pages; zeros follow them without end.
     pub fn pages(&self) -> &[u8]
         ensures { result.now ≡ self.now.pages.items }
     {
@@ -59,6 +62,7 @@ impl Image {
         })
     }
 
+    /// Fills the buffer from the byte at `at` of an area, with zeros past the area's end.
     pub fn read(&self, area: Area, at: u64, buf: &mut [u8])
         ensures { Stand (image_disk self.now) area at buf.new }
     {

@@ -41,6 +41,7 @@ impl Recording {
         }
     }
 
+    /// What the machine holds and has put out by now.
     pub fn contents(&self) -> &Contents
         ensures { result.now ≡ self.now.contents }
     {

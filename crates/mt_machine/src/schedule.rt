@@ -16,6 +16,7 @@ pub struct Counts {
 impl Counts {
     ghost use Rattle.mt_machine.specs.Schedule.{count_of, no_calls, CountsOne};
 
+    /// No call was made yet.
     pub fn new() -> Counts
         ensures { result ≡ no_calls }
     {
@@ -62,6 +63,7 @@ pub struct Schedule {
 impl Schedule {
     ghost use Rattle.mt_machine.specs.Schedule.{IsUncalled, FailsNext, CountsCall};
 
+    /// The calls that are to fail, none of them made yet.
     pub fn new(fails: FailList) -> Schedule
         ensures { IsUncalled fails result }
     {

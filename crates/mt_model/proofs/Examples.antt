@@ -4,16 +4,16 @@ use Rattle.std.specs.Fmt.{digits}
 use Rattle.std.specs.FinMap as finite
 use Rattle.std.specs.Ordering.{nat_cmp}
 use Rattle.mt_tree.specs.declared.code.Code.TheVariants.{UnknownTenant, NotServed, NumberOutside64Bits, UnknownTable, UnknownColumn, TypesDoNotFit, TextTooLong, QuotaFull, NameExists, ColumnNameTaken, Limit, QuotasTooLarge}
-use Rattle.mt_tree.specs.declared.command.AdminCmd.TheVariants.{CreateTable, CreateTenant}
-use Rattle.mt_tree.specs.declared.command.Def.{Def}
+use Rattle.mt_tree.specs.declared.simple.SimpleCmd.TheVariants.{CreateTable, CreateTenant}
+use Rattle.mt_tree.specs.declared.simple.SimpleDef.{SimpleDef}
 use Rattle.mt_tree.specs.declared.command.DefKind.TheVariants as def
 use Rattle.mt_tree.specs.declared.reply.Reply.{Reply}
 use Rattle.mt_tree.specs.declared.reply.Reply.TheVariants.{Text, Refused, Memory}
 use Rattle.mt_tree.specs.declared.schema.Table.{Table}
-use Rattle.mt_tree.specs.declared.statement.Literal.{Literal}
-use Rattle.mt_tree.specs.declared.statement.Literal.TheVariants as literal
-use Rattle.mt_tree.specs.declared.statement.SimpleStmt.{SimpleStmt}
-use Rattle.mt_tree.specs.declared.statement.SimpleStmt.TheVariants.{Insert, Select}
+use Rattle.mt_tree.specs.declared.expression.Literal.{Literal}
+use Rattle.mt_tree.specs.declared.expression.Literal.TheVariants as literal
+use Rattle.mt_tree.specs.declared.simple.SimpleStmt.{SimpleStmt}
+use Rattle.mt_tree.specs.declared.simple.SimpleStmt.TheVariants.{Insert, Select}
 use Rattle.mt_script.specs.Lines as lines
 use Rattle.mt_script.specs.Lines.{cut, without_return, lines_of, ended_lines_of}
 use Rattle.mt_grammar.specs.Reading.{Said, Unserved, Outside, Says}
@@ -53,7 +53,7 @@ ended_lines_of-two : ended_lines_of (codes "@1 a\n@2 b") ≡ lines.Text (codes "
 ended_lines_of-two = refl
 
 -- CREATE TABLE t (a INTEGER, b VARCHAR(5))
-abbrev defs : List Def
+abbrev defs : List SimpleDef
 defs = record { name = codes "a"; kind = def.Integer } ∷ record { name = codes "b"; kind = def.Varchar 5 } ∷ []
 
 abbrev table : Table

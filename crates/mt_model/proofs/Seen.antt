@@ -5,11 +5,11 @@ use Rattle.std.specs.Cmp.{nat_eq_equiv}
 use Rattle.mt_tree.specs.declared.code.Code.{Code}
 use Rattle.mt_tree.specs.declared.reply.Reply.{Reply}
 use Rattle.mt_tree.specs.declared.reply.Reply.TheVariants.{Text, Refused, Memory}
-use Rattle.mt_tree.specs.declared.statement.SimpleStmt.{SimpleStmt}
-use Rattle.mt_tree.specs.declared.command.Def.{Def}
+use Rattle.mt_tree.specs.declared.simple.SimpleStmt.{SimpleStmt}
+use Rattle.mt_tree.specs.declared.simple.SimpleDef.{SimpleDef}
 use Rattle.mt_tree.specs.declared.schema.Table.{Table}
-use Rattle.mt_tree.specs.declared.command.AdminCmd.{AdminCmd}
-use Rattle.mt_tree.specs.declared.command.AdminCmd.TheVariants.{CreateTable, CreateTenant}
+use Rattle.mt_tree.specs.declared.simple.SimpleCmd.{SimpleCmd}
+use Rattle.mt_tree.specs.declared.simple.SimpleCmd.TheVariants.{CreateTable, CreateTenant}
 use Rattle.mt_script.specs.Lines.{Line}
 use Rattle.mt_grammar.specs.Reading.{Said, Unserved, Outside, Says}
 use Rattle.mt_model.specs.Database.{PrivateDatabase, with_table_in_each}
@@ -83,7 +83,7 @@ statement-seen tenant service other said events false e =
     ap (λ (view : View). private_replies view events) (view_of-put_other service other (next_database (view_of service other) said) tenant (nat_eq_equiv.symm tenant other ∙ e))
 
 -- what a tenant sees once a table was made
-table-view : (tenant : ℕ) (service : Service) (name : List ℕ) (columns : List Def) → view_of (applied service (CreateTable name columns)) tenant ≡ applied_view (view_of service tenant) (CreateTable name columns)
+table-view : (tenant : ℕ) (service : Service) (name : List ℕ) (columns : List SimpleDef) → view_of (applied service (CreateTable name columns)) tenant ≡ applied_view (view_of service tenant) (CreateTable name columns)
 table-view tenant service name columns = ap (view_with (service.tables ++ table_of_defs name columns ∷ [])) (get-in_each with_table_in_each service.tenants tenant)
 
 -- the new tenant is this one, or another
@@ -98,18 +98,18 @@ tenant-seen tenant service other quota events false e =
     ap (λ (view : View). private_replies view events) (view_of-put_other service other (Some (new_database service.tables quota)) tenant (nat_eq_equiv.symm tenant other ∙ e))
 
 -- an accepted command
-accepted-seen : (tenant : ℕ) (service : Service) (command : AdminCmd) → IsSeen tenant service (Command (Says command)) (Text (codes "ok\n")) (applied service command)
+accepted-seen : (tenant : ℕ) (service : Service) (command : SimpleCmd) → IsSeen tenant service (Command (Says command)) (Text (codes "ok\n")) (applied service command)
 accepted-seen tenant service (CreateTable name columns) events = ap (λ (view : View). private_replies view events) (table-view tenant service name columns)
 accepted-seen tenant service (CreateTenant other quota) events = tenant-seen tenant service other quota events (other == tenant) refl
 
 -- a refused command
-refused-seen : (tenant : ℕ) (service : Service) (command : AdminCmd) (code : Code) → IsSeen tenant service (Command (Says command)) (Refused code) service
+refused-seen : (tenant : ℕ) (service : Service) (command : SimpleCmd) (code : Code) → IsSeen tenant service (Command (Says command)) (Refused code) service
 refused-seen tenant service (CreateTable name columns) code events = refl
 refused-seen tenant service (CreateTenant other quota) code events =
     elim (other == tenant) as (λ own. private_replies (view_of service tenant) events ≡ private_replies (view_of service tenant) ((if own then [] else []) ++ events)) [ true ↦ refl | false ↦ refl ]
 
 -- a command, whether it is refused or not
-command-seen : (tenant : ℕ) (service : Service) (command : AdminCmd) (refusal : Option Code) →
+command-seen : (tenant : ℕ) (service : Service) (command : SimpleCmd) (refusal : Option Code) →
     let stepped : Stepped = elim refusal [ None ↦ record { reply = Text (codes "ok\n"); next = applied service command } | Some code ↦ refused service code ] in
     IsSeen tenant service (Command (Says command)) stepped.reply stepped.next
 command-seen tenant service command None = accepted-seen tenant service command

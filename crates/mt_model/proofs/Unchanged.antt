@@ -2,9 +2,9 @@
 use Rattle.std.proofs.Common.{◌≡◌, ℕ, Option, Some, None, List, refl, ap, ◌∙◌, ⊎_elim, codes}
 use Rattle.std.specs.FinMap as finite
 use Rattle.mt_tree.specs.declared.code.Code.{Code}
-use Rattle.mt_tree.specs.declared.command.AdminCmd.{AdminCmd}
+use Rattle.mt_tree.specs.declared.simple.SimpleCmd.{SimpleCmd}
 use Rattle.mt_tree.specs.declared.reply.Reply.TheVariants.{Text, Refused}
-use Rattle.mt_tree.specs.declared.statement.SimpleStmt.{SimpleStmt}
+use Rattle.mt_tree.specs.declared.simple.SimpleStmt.{SimpleStmt}
 use Rattle.mt_script.specs.Lines.{Line}
 use Rattle.mt_grammar.specs.Reading.{Said, Unserved, Outside, Says}
 use Rattle.mt_model.specs.Answer.{answer, answer_said, next_said, next_database, first_refusal, reply_text, changed}
@@ -37,7 +37,7 @@ statement-refused service tenant said code (Some database) there e =
     ap (λ (next : PrivateDatabase). put_database service tenant (Some next)) (next_said-refused (view_with service.tables (Some database)) database said code e)
     ∙ put_database-there service tenant database there
 
-command-refused : (service : Service) (command : AdminCmd) (code : Code) (refusal : Option Code) →
+command-refused : (service : Service) (command : SimpleCmd) (code : Code) (refusal : Option Code) →
     let stepped : Stepped = elim refusal [ None ↦ record { reply = Text (codes "ok\n"); next = applied service command } | Some code ↦ refused service code ] in
     Refused code ≡ stepped.reply → stepped.next ≡ service
 command-refused service command code None e = cc

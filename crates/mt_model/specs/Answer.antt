@@ -11,9 +11,9 @@ use Rattle.mt_tree.specs.declared.reply.Reply.{Reply}
 use Rattle.mt_tree.specs.declared.reply.Reply.TheVariants.{Text, Refused}
 use Rattle.mt_tree.specs.declared.schema.Column.{Column}
 use Rattle.mt_tree.specs.declared.schema.Table.{Table}
-use Rattle.mt_tree.specs.declared.statement.Literal.{Literal}
-use Rattle.mt_tree.specs.declared.statement.SimpleStmt.{SimpleStmt}
-use Rattle.mt_tree.specs.declared.statement.SimpleStmt.TheVariants.{Insert, Select}
+use Rattle.mt_tree.specs.declared.expression.Literal.{Literal}
+use Rattle.mt_tree.specs.declared.simple.SimpleStmt.{SimpleStmt}
+use Rattle.mt_tree.specs.declared.simple.SimpleStmt.TheVariants.{Insert, Select}
 use Rattle.mt_model.specs.Database.{TableContent, PrivateDatabase, no_rows, kept_rows, visible_rows, with_row}
 use Rattle.mt_model.specs.Tables.{table_number, column_place, column_names, value_of, fit_columns, are_short}
 use Rattle.mt_grammar.specs.Reading.{Said, Unserved, Outside, Says}
@@ -28,6 +28,7 @@ first_holding ((code, holds) ∷ tests) = if holds then Some code else first_hol
 abbrev pub columns_of : List Table → ℕ → List Column
 columns_of tables number = (slice_index_or tables number (record { name = []; columns = [] })).columns
 
+-- what the table of that number holds
 abbrev pub content_of : PrivateDatabase → ℕ → TableContent
 content_of database number = slice_index_or database.current number no_rows
 
@@ -48,10 +49,12 @@ abbrev pub tests_at : View → PrivateDatabase → SimpleStmt → ℕ → List (
 tests_at view database (Insert table values) number = insert_tests (columns_of view.tables number) database number values
 tests_at view database (Select table columns) number = select_tests (columns_of view.tables number) columns
 
+-- the table that a statement names
 abbrev pub table_of : SimpleStmt → List ℕ
 table_of (Insert table values) = table
 table_of (Select table columns) = table
 
+-- the tests of a statement; a table that is not there is refused first
 abbrev pub tests_of : View → PrivateDatabase → SimpleStmt → List (Code × Bool)
 tests_of view database statement =
     elim (table_number view.tables (table_of statement)) [
@@ -87,6 +90,7 @@ row_line row = join_with_byte 124 (map value_text row) ++ 10 ∷ []
 abbrev pub select_text : List (List ℕ) → List (List Value) → List ℕ
 select_text names rows = codes "columns " ++ join_with_byte 124 names ++ 10 ∷ (flat_map row_line rows ++ codes "ok " ++ decimal (length rows) ++ 10 ∷ [])
 
+-- the names in the head of a result: those asked for, or those of all columns
 abbrev pub output_names : List Column → List (List ℕ) → List (List ℕ)
 output_names columns names = if nat_lt 0 (length names) then names else column_names columns
 
@@ -112,6 +116,7 @@ answer_within view database statement =
       | Some code ↦ Refused code
     ]
 
+-- the database after a statement, for a tenant that is there: a refusal leaves it as it is
 abbrev pub next_within : View → PrivateDatabase → SimpleStmt → PrivateDatabase
 next_within view database statement =
     elim (first_refusal view database statement) [
@@ -119,11 +124,13 @@ next_within view database statement =
       | Some code ↦ database
     ]
 
+-- the answer to what a line says, for a tenant that is there
 abbrev pub answer_said : View → PrivateDatabase → Said SimpleStmt → Reply
 answer_said view database Unserved = Refused NotServed
 answer_said view database Outside = Refused NumberOutside64Bits
 answer_said view database (Says statement) = answer_within view database statement
 
+-- the database after what a line says, for a tenant that is there
 abbrev pub next_said : View → PrivateDatabase → Said SimpleStmt → PrivateDatabase
 next_said view database Unserved = database
 next_said view database Outside = database
@@ -137,5 +144,6 @@ answer view said = elim view.database [ None ↦ Refused UnknownTenant | Some da
 abbrev pub next_database : View → Said SimpleStmt → Option PrivateDatabase
 next_database view said = elim view.database [ None ↦ None | Some database ↦ Some (next_said view database said) ]
 
+-- what the tenant sees after its line
 abbrev pub next_view : View → Said SimpleStmt → View
 next_view view said = record view { database = next_database view said }

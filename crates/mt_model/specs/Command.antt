@@ -4,9 +4,9 @@ use Rattle.std.specs.List.{list_any}
 use Rattle.std.specs.FinMap as finite
 use Rattle.mt_tree.specs.declared.code.Code.{Code}
 use Rattle.mt_tree.specs.declared.code.Code.TheVariants.{NameExists, ColumnNameTaken, Limit, QuotasTooLarge}
-use Rattle.mt_tree.specs.declared.command.AdminCmd.{AdminCmd}
-use Rattle.mt_tree.specs.declared.command.AdminCmd.TheVariants.{CreateTable, CreateTenant}
-use Rattle.mt_tree.specs.declared.command.Def.{Def}
+use Rattle.mt_tree.specs.declared.simple.SimpleCmd.{SimpleCmd}
+use Rattle.mt_tree.specs.declared.simple.SimpleCmd.TheVariants.{CreateTable, CreateTenant}
+use Rattle.mt_tree.specs.declared.simple.SimpleDef.{SimpleDef}
 use Rattle.mt_tree.specs.declared.command.DefKind.{DefKind}
 use Rattle.mt_tree.specs.declared.command.DefKind.TheVariants as def
 use Rattle.mt_tree.specs.declared.schema.Kind.{Kind}
@@ -28,7 +28,7 @@ is_size_within def.Integer = true
 is_size_within (def.Varchar size) = is_within 1 120 size
 
 -- at most 16 base tables, of at most 16 columns each
-abbrev pub table_tests : Service → List ℕ → List Def → List (Code × Bool)
+abbrev pub table_tests : Service → List ℕ → List SimpleDef → List (Code × Bool)
 table_tests service name defs =
     (NameExists, is_some (table_number service.tables name))
     ∷ (ColumnNameTaken, has_repeat (map (λ d. d.name) defs))
@@ -42,18 +42,21 @@ tenant_tests service tenant quota =
     ∷ (QuotasTooLarge, nat_lt 1048576 (quota_total service + quota)) ∷ []
 
 -- the first refusal of a command, or none
-abbrev pub command_refusal : Service → AdminCmd → Option Code
+abbrev pub command_refusal : Service → SimpleCmd → Option Code
 command_refusal service (CreateTable name columns) = first_holding (table_tests service name columns)
 command_refusal service (CreateTenant tenant quota) = first_holding (tenant_tests service tenant quota)
 
+-- the kind of a column, as the command says it
 abbrev pub kind_of : DefKind → Kind
 kind_of def.Integer = Integer
 kind_of (def.Varchar size) = Varchar size
 
-abbrev pub column_of : Def → Column
+-- a column that may be null and is no key
+abbrev pub column_of : SimpleDef → Column
 column_of d = record { name = d.name; kind = kind_of d.kind; not_null = false; key = false }
 
-abbrev pub table_of_defs : List ℕ → List Def → Table
+-- the table that a command defines
+abbrev pub table_of_defs : List ℕ → List SimpleDef → Table
 table_of_defs name defs = record { name = name; columns = map column_of defs }
 
 -- a database of these tables, without a row
@@ -61,7 +64,7 @@ abbrev pub new_database : List Table → ℕ → PrivateDatabase
 new_database tables quota = record { quota = quota; current = empty_content tables; saved = None }
 
 -- the service after a command that is not refused
-abbrev pub applied : Service → AdminCmd → Service
+abbrev pub applied : Service → SimpleCmd → Service
 applied service (CreateTable name columns) = record {
   tables = service.tables ++ table_of_defs name columns ∷ [];
   tenants = in_each with_table_in_each service.tenants;
@@ -69,7 +72,7 @@ applied service (CreateTable name columns) = record {
 applied service (CreateTenant tenant quota) = record service { tenants = finite.insert service.tenants tenant (new_database service.tables quota) }
 
 -- what a tenant sees after an accepted command that bears on it
-abbrev pub applied_view : View → AdminCmd → View
+abbrev pub applied_view : View → SimpleCmd → View
 applied_view view (CreateTable name columns) = record {
   tables = view.tables ++ table_of_defs name columns ∷ [];
   database = option_map with_table_in_each view.database;

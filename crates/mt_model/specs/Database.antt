@@ -11,6 +11,7 @@ pub use Rattle.mt_model.specs.declared.database.PrivateDatabase.{PrivateDatabase
 abbrev pub Content : Type 0
 Content = List TableContent
 
+-- a table in which no row was ever made
 abbrev pub no_rows : TableContent
 no_rows = record { made = 0; rows = [] }
 
@@ -34,6 +35,7 @@ empty_content tables = map (λ table. no_rows) tables
 abbrev pub with_table : Content → Content
 with_table content = content ++ no_rows ∷ []
 
+-- one more table in a saved content
 abbrev pub with_table_saved : SavedContent → SavedContent
 with_table_saved saved = record saved { content = with_table saved.content }
 

@@ -1,7 +1,7 @@
 -- What `run` serves so far: one command in one form. It knows no limit on the number of tenants.
 use Rattle.std.specs.Prelude.{◌≡◌, ℕ, ◌+◌, ◌^◌, ◌<◌, ◌≤◌, nat_lt, if◌then◌else◌, List, ◌++◌, codes, decimal}
 use Rattle.std.specs.FinMap as finite
-use Rattle.mt_tree.specs.declared.command.AdminCmd.TheVariants.{CreateTenant}
+use Rattle.mt_tree.specs.declared.simple.SimpleCmd.TheVariants.{CreateTenant}
 use Rattle.mt_tree.specs.declared.code.Code.TheVariants.{NameExists, QuotasTooLarge}
 use Rattle.mt_tree.specs.declared.reply.Reply.TheVariants.{Text}
 use Rattle.mt_script.specs.Lines as lines
@@ -22,6 +22,7 @@ pub record SpellsCreateTenant (bytes : List ℕ) (tenant quota : ℕ) : Type 0 w
   pub quota_from : 1 ≤ quota
   pub quota_upto : quota ≤ 65536
 
+-- what a line says to the word `run`: it makes a tenant, or has no form that is served
 abbrev pub IsFirstPathRequest : Line → Request → Type 0
 IsFirstPathRequest lines.TooLong LineTooLong = Unit {0}
 IsFirstPathRequest (lines.Text bytes) (Command (Says (CreateTenant tenant quota))) = SpellsCreateTenant bytes tenant quota
@@ -37,5 +38,6 @@ first_path_step service (Command (Says (CreateTenant tenant quota))) =
     else record { reply = Text (codes "ok\n"); next = applied service (CreateTenant tenant quota) })
 first_path_step service request = step service request
 
+-- the rules of the word `run`
 abbrev pub first_path : Rules
 first_path = record { says = IsFirstPathRequest; step = first_path_step }

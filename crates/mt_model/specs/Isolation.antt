@@ -2,9 +2,9 @@
 use Rattle.std.specs.Prelude.{ℕ, ◌==◌, if◌then◌else◌, List, [], ◌∷◌, ◌++◌}
 use Rattle.mt_tree.specs.declared.reply.Reply.{Reply}
 use Rattle.mt_tree.specs.declared.reply.Reply.TheVariants.{Text, Refused, Memory}
-use Rattle.mt_tree.specs.declared.statement.SimpleStmt.{SimpleStmt}
-use Rattle.mt_tree.specs.declared.command.AdminCmd.{AdminCmd}
-use Rattle.mt_tree.specs.declared.command.AdminCmd.TheVariants.{CreateTable, CreateTenant}
+use Rattle.mt_tree.specs.declared.simple.SimpleStmt.{SimpleStmt}
+use Rattle.mt_tree.specs.declared.simple.SimpleCmd.{SimpleCmd}
+use Rattle.mt_tree.specs.declared.simple.SimpleCmd.TheVariants.{CreateTable, CreateTenant}
 use Rattle.mt_model.specs.Answer.{answer, next_view}
 use Rattle.mt_model.specs.Command.{applied_view}
 use Rattle.mt_grammar.specs.Reading.{Said, Unserved, Outside, Says}
@@ -22,7 +22,7 @@ pub data Event : Type 0 where
   -- a line of the tenant
   Asks : (said : Said SimpleStmt) → Event
   -- an accepted schema step
-  Takes : (command : AdminCmd) → Event
+  Takes : (command : SimpleCmd) → Event
 
 -- a line that is answered for want of memory counts as not sent
 abbrev pub unless_forgone : {A : Type 0} → Reply → A → List A
@@ -30,17 +30,19 @@ unless_forgone Memory x = []
 unless_forgone (Text text) x = x ∷ []
 unless_forgone (Refused code) x = x ∷ []
 
+-- only what was accepted counts
 abbrev pub if_accepted : {A : Type 0} → Reply → A → List A
 if_accepted (Text text) x = x ∷ []
 if_accepted Memory x = []
 if_accepted (Refused code) x = []
 
 -- a new table bears on every tenant, a new tenant on itself
-abbrev pub command_events : ℕ → AdminCmd → Reply → List Event
+abbrev pub command_events : ℕ → SimpleCmd → Reply → List Event
 command_events tenant (CreateTable name columns) reply = if_accepted reply (Takes (CreateTable name columns))
 command_events tenant (CreateTenant other quota) reply = if other == tenant then if_accepted reply (Takes (CreateTenant other quota)) else []
 
-abbrev pub said_events : ℕ → Said AdminCmd → Reply → List Event
+-- what a command of the administrator is to the tenant
+abbrev pub said_events : ℕ → Said SimpleCmd → Reply → List Event
 said_events tenant Unserved reply = []
 said_events tenant Outside reply = []
 said_events tenant (Says command) reply = command_events tenant command reply
@@ -57,6 +59,7 @@ abbrev pub own_events : ℕ → List Request → List Reply → List Event
 own_events tenant (request ∷ requests) (reply ∷ replies) = event_of tenant request reply ++ own_events tenant requests replies
 own_events tenant requests replies = []
 
+-- the reply, where the line is the tenant's own
 abbrev pub reply_to : ℕ → Request → Reply → List Reply
 reply_to tenant (Statement other said) reply = if other == tenant then unless_forgone reply reply else []
 reply_to tenant request reply = []

@@ -7,7 +7,7 @@ use Rattle.std.specs.FinMap as finite
 use Rattle.std.specs.FinMap.{FinMap}
 use Rattle.mt_tree.specs.declared.schema.Table.{Table}
 use Rattle.mt_tree.specs.declared.code.Code.{Code}
-use Rattle.mt_tree.specs.declared.command.AdminCmd.{AdminCmd}
+use Rattle.mt_tree.specs.declared.simple.SimpleCmd.{SimpleCmd}
 use Rattle.mt_tree.specs.declared.reply.Reply.TheVariants.{Text}
 use Rattle.mt_model.specs.Command.{command_refusal, applied}
 use Rattle.mt_model.specs.Database.{PrivateDatabase}
@@ -73,11 +73,11 @@ put_database-there service tenant database e =
     there other = get-insert service.tenants tenant database other ∙ at other (other == tenant) refl
 
 -- a command that is not refused is done, and one that is refused is not
-abbrev pub decided_step : Service → AdminCmd → Option Code → Stepped
+abbrev pub decided_step : Service → SimpleCmd → Option Code → Stepped
 decided_step service command None = record { reply = Text (codes "ok\n"); next = applied service command }
 decided_step service command (Some code) = refused service code
 
-pub command_step-decided : (service : Service) (command : AdminCmd) (refusal : Option Code) → command_refusal service command ≡ refusal → command_step service command ≡ decided_step service command refusal
+pub command_step-decided : (service : Service) (command : SimpleCmd) (refusal : Option Code) → command_refusal service command ≡ refusal → command_step service command ≡ decided_step service command refusal
 command_step-decided service command refusal e = by (command_refusal service command) ∙ ap (decided_step service command) e
   where
     by : (found : Option Code) → (elim found [ None ↦ record { reply = Text (codes "ok\n"); next = applied service command } | Some code ↦ refused service code ]) ≡ decided_step service command found

@@ -6,6 +6,7 @@ use Rattle.std.specs.FinMap.{FinMap}
 use Rattle.mt_tree.specs.declared.schema.Table.{Table}
 use Rattle.mt_model.specs.Database.{PrivateDatabase}
 
+-- the tables that all tenants share, and the database of each tenant by its number
 pub record Service : Type 0 where
   -- the base tables, in the order in which they were made
   pub tables : List Table
@@ -21,6 +22,7 @@ pub record View : Type 0 where
 unfoldable pub empty_service : Service
 empty_service = record { tables = []; tenants = finite.empty }
 
+-- what the tenant of that number sees
 abbrev pub view_of : Service → ℕ → View
 view_of service tenant = record { tables = service.tables; database = finite.get service.tenants tenant }
 

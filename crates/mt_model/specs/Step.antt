@@ -1,6 +1,6 @@
 -- What one request does to the service, and what it is answered.
 use Rattle.std.specs.Prelude.{Some, None, codes}
-use Rattle.mt_tree.specs.declared.command.AdminCmd.{AdminCmd}
+use Rattle.mt_tree.specs.declared.simple.SimpleCmd.{SimpleCmd}
 use Rattle.mt_tree.specs.declared.code.Code.{Code}
 use Rattle.mt_tree.specs.declared.code.Code.TheVariants as code
 use Rattle.mt_tree.specs.declared.reply.Reply.{Reply}
@@ -11,6 +11,7 @@ use Rattle.mt_grammar.specs.Reading.{Said, Unserved, Outside, Says}
 use Rattle.mt_model.specs.Request.{Request, LineTooLong, Unreadable, Statement, Command}
 use Rattle.mt_model.specs.Service.{Service, view_of, put_database}
 
+-- the reply to a request, and the service after it
 pub record Stepped : Type 0 where
   pub reply : Reply
   pub next : Service
@@ -20,18 +21,20 @@ abbrev pub refused : Service → Code → Stepped
 refused service code = record { reply = Refused code; next = service }
 
 -- the command is refused, or done and answered `ok`
-abbrev pub command_step : Service → AdminCmd → Stepped
+abbrev pub command_step : Service → SimpleCmd → Stepped
 command_step service command =
     elim (command_refusal service command) [
       | None ↦ record { reply = Text (codes "ok\n"); next = applied service command }
       | Some code ↦ refused service code
     ]
 
-abbrev pub command_said : Service → Said AdminCmd → Stepped
+-- the step of what the administrator's line says
+abbrev pub command_said : Service → Said SimpleCmd → Stepped
 command_said service Unserved = refused service code.NotServed
 command_said service Outside = refused service code.NumberOutside64Bits
 command_said service (Says command) = command_step service command
 
+-- the step of a request: every line is answered, and only an accepted one changes the service
 abbrev pub step : Service → Request → Stepped
 step service LineTooLong = refused service code.LineTooLong
 step service Unreadable = refused service code.LineNotReadable

@@ -8,8 +8,8 @@ use Rattle.mt_tree.specs.declared.schema.Kind.{Kind}
 use Rattle.mt_tree.specs.declared.schema.Kind.TheVariants.{Integer, Varchar}
 use Rattle.mt_tree.specs.declared.schema.Column.{Column}
 use Rattle.mt_tree.specs.declared.schema.Table.{Table}
-use Rattle.mt_tree.specs.declared.statement.Literal.{Literal}
-use Rattle.mt_tree.specs.declared.statement.Literal.TheVariants.{Null, Int, Text}
+use Rattle.mt_tree.specs.declared.expression.Literal.{Literal}
+use Rattle.mt_tree.specs.declared.expression.Literal.TheVariants.{Null, Int, Text}
 
 -- the number of the table of that name: its place in the order in which the tables were made
 abbrev pub table_number : List Table → List ℕ → Option ℕ
@@ -19,6 +19,7 @@ table_number tables name = position (λ table. bytes_eq table.name name) tables
 abbrev pub column_place : List Column → List ℕ → Option ℕ
 column_place columns name = position (λ column. bytes_eq column.name name) columns
 
+-- the names of the columns, in their order
 abbrev pub column_names : List Column → List (List ℕ)
 column_names columns = map (λ column. column.name) columns
 
@@ -51,6 +52,7 @@ abbrev pub is_short : Kind → Literal → Bool
 is_short (Varchar size) (Text text) = nat_le (length text) size
 is_short kind literal = true
 
+-- each literal is short enough for its column
 abbrev pub are_short : List Column → List Literal → Bool
 are_short (column ∷ columns) (literal ∷ literals) = is_short column.kind literal && are_short columns literals
 are_short columns literals = true

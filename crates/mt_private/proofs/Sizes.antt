@@ -3,17 +3,17 @@ use Rattle.std.proofs.Common.{◌≡◌, ℕ, Bool, true, false, not, None, All,
 use Rattle.std.specs.List.{list_any}
 use Rattle.std.proofs.lemmas.Grind.{common_steps}
 use Rattle.std.proofs.lemmas.List.Folds.{list_any_at}
-use Rattle.mt_tree.specs.declared.command.Def.{Def}
+use Rattle.mt_tree.specs.declared.simple.SimpleDef.{SimpleDef}
 use Rattle.mt_model.specs.Answer.{first_holding}
 use Rattle.mt_model.specs.Command.{table_tests, is_size_within}
 use Rattle.mt_model.specs.Service.{Service}
 
 -- no column is of a size that there is not
-sizes-within : (service : Service) (name : List ℕ) (defs : List Def) → None ≡ first_holding (table_tests service name defs) → list_any (λ def. not (is_size_within def.kind)) defs ≡ false
+sizes-within : (service : Service) (name : List ℕ) (defs : List SimpleDef) → None ≡ first_holding (table_tests service name defs) → list_any (λ def. not (is_size_within def.kind)) defs ≡ false
 sizes-within service name defs none = grind (arith, common_steps)
 
 -- so each is of one that there is
-pub each-within : (service : Service) (name : List ℕ) (defs : List Def) → None ≡ first_holding (table_tests service name defs) → All (λ def. IsTrue (is_size_within def.kind)) defs
+pub each-within : (service : Service) (name : List ℕ) (defs : List SimpleDef) → None ≡ first_holding (table_tests service name defs) → All (λ def. IsTrue (is_size_within def.kind)) defs
 each-within service name defs none k d below =
     by (is_size_within (get_or defs k d).kind) refl
   where

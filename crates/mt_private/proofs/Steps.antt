@@ -7,13 +7,13 @@ use Rattle.std.specs.Option.{option_map}
 use Rattle.std.proofs.lemmas.Bool.{ne_eqb}
 use Rattle.std.proofs.lemmas.List.{length-append}
 use Rattle.mt_tree.specs.declared.code.Code.TheVariants.{UnknownTenant}
-use Rattle.mt_tree.specs.declared.command.AdminCmd.{AdminCmd}
-use Rattle.mt_tree.specs.declared.command.AdminCmd.TheVariants.{CreateTable, CreateTenant}
-use Rattle.mt_tree.specs.declared.command.Def.{Def}
+use Rattle.mt_tree.specs.declared.simple.SimpleCmd.{SimpleCmd}
+use Rattle.mt_tree.specs.declared.simple.SimpleCmd.TheVariants.{CreateTable, CreateTenant}
+use Rattle.mt_tree.specs.declared.simple.SimpleDef.{SimpleDef}
 use Rattle.mt_tree.specs.declared.reply.Reply.{Reply}
 use Rattle.mt_tree.specs.declared.reply.Reply.TheVariants.{Text, Refused, Memory}
 use Rattle.mt_tree.specs.declared.schema.Table.{Table}
-use Rattle.mt_tree.specs.declared.statement.SimpleStmt.{SimpleStmt}
+use Rattle.mt_tree.specs.declared.simple.SimpleStmt.{SimpleStmt}
 use Rattle.mt_grammar.specs.Reading.{Said, Says}
 use Rattle.mt_model.specs.declared.database.PrivateDatabase.{PrivateDatabase}
 use Rattle.mt_model.specs.Answer.{answer, next_database}
@@ -110,7 +110,7 @@ statement-comes tables entries changed tenant old new said reply there puts (inr
     })
 
 -- a command that is done
-pub command-done : (service next : Service) (command : AdminCmd) (text : List ℕ) → command_refusal service command ≡ None → text ≡ codes "ok\n" → next ≡ applied service command → ComesTo service (Command (Says command)) (Text text) next
+pub command-done : (service next : Service) (command : SimpleCmd) (text : List ℕ) → command_refusal service command ≡ None → text ≡ codes "ok\n" → next ≡ applied service command → ComesTo service (Command (Says command)) (Text text) next
 command-done service next command text none ok made =
     let is = command_step-decided service command None none in
     inl (record {
@@ -119,11 +119,11 @@ command-done service next command text none ok made =
     })
 
 -- a command for which there is not memory enough
-pub command-forgone : (service : Service) (said : Said AdminCmd) → ComesTo service (Command said) Memory service
+pub command-forgone : (service : Service) (said : Said SimpleCmd) → ComesTo service (Command said) Memory service
 command-forgone service said = inr (record { reply_is = refl; next_is = refl; yields = command_said-yields service said })
 
 -- a table more
-pub made-table : (tables : List Table) (table : Table) (entries : List (ℕ × PrivateDatabase)) (name : List ℕ) (defs : List Def) → AreKept tables entries → table ≡ table_of_defs name defs →
+pub made-table : (tables : List Table) (table : Table) (entries : List (ℕ × PrivateDatabase)) (name : List ℕ) (defs : List SimpleDef) → AreKept tables entries → table ≡ table_of_defs name defs →
     service_of (tables ++ table ∷ []) entries ≡ applied (service_of tables entries) (CreateTable name defs)
 made-table tables table entries name defs kept is =
     ap (λ (table : Table). service_of (tables ++ table ∷ []) entries) is ∙ service_of-push tables (table_of_defs name defs) entries kept

@@ -2,12 +2,12 @@
 use Rattle.std.proofs.Common.{ℕ, Bool, true, false, Option, Some, None, List, [], ◌∷◌, codes}
 use Rattle.mt_tree.specs.declared.code.Code.{Code}
 use Rattle.mt_tree.specs.declared.code.Code.TheVariants.{UnknownTable}
-use Rattle.mt_tree.specs.declared.command.AdminCmd.{AdminCmd}
-use Rattle.mt_tree.specs.declared.command.AdminCmd.TheVariants.{CreateTable, CreateTenant}
+use Rattle.mt_tree.specs.declared.simple.SimpleCmd.{SimpleCmd}
+use Rattle.mt_tree.specs.declared.simple.SimpleCmd.TheVariants.{CreateTable, CreateTenant}
 use Rattle.mt_tree.specs.declared.reply.Reply.{Reply}
 use Rattle.mt_tree.specs.declared.reply.Reply.TheVariants.{Text, Refused}
-use Rattle.mt_tree.specs.declared.statement.SimpleStmt.{SimpleStmt}
-use Rattle.mt_tree.specs.declared.statement.SimpleStmt.TheVariants.{Insert, Select}
+use Rattle.mt_tree.specs.declared.simple.SimpleStmt.{SimpleStmt}
+use Rattle.mt_tree.specs.declared.simple.SimpleStmt.TheVariants.{Insert, Select}
 use Rattle.mt_grammar.specs.Reading.{Said, Unserved, Outside, Says}
 use Rattle.mt_model.specs.declared.database.PrivateDatabase.{PrivateDatabase}
 use Rattle.mt_model.specs.Answer.{first_holding, first_refusal, tests_at, tests_of, table_of, answer_said, reply_text}
@@ -55,12 +55,12 @@ answer_said-yields view database (Says statement) =
     by None yields = yields
     by (Some code) yields = yields
 
-command_refusal-yields : (service : Service) (command : AdminCmd) → YieldsToMemory (reply_of (codes "ok\n") (command_refusal service command))
+command_refusal-yields : (service : Service) (command : SimpleCmd) → YieldsToMemory (reply_of (codes "ok\n") (command_refusal service command))
 command_refusal-yields service (CreateTable name defs) = tests-yield (table_tests service name defs) (codes "ok\n") (tt, (tt, (tt, tt)))
 command_refusal-yields service (CreateTenant tenant quota) = tests-yield (tenant_tests service tenant quota) (codes "ok\n") (tt, (tt, (tt, tt)))
 
 -- the administrator's command
-pub command_said-yields : (service : Service) (said : Said AdminCmd) → YieldsToMemory (command_said service said).reply
+pub command_said-yields : (service : Service) (said : Said SimpleCmd) → YieldsToMemory (command_said service said).reply
 command_said-yields service Unserved = tt
 command_said-yields service Outside = tt
 command_said-yields service (Says command) =

@@ -4,7 +4,7 @@ use Rattle.mt_value.specs.declared.value.Value.{Value}
 use Rattle.mt_tree.specs.declared.schema.Table.{Table}
 use Rattle.mt_tree.specs.declared.reply.Reply.{Reply}
 use Rattle.mt_tree.specs.declared.reply.Reply.TheVariants.{Memory}
-use Rattle.mt_tree.specs.declared.statement.SimpleStmt.{SimpleStmt}
+use Rattle.mt_tree.specs.declared.simple.SimpleStmt.{SimpleStmt}
 use Rattle.mt_grammar.specs.Reading.{Said}
 use Rattle.mt_model.specs.Answer.{answer_said, next_said}
 use Rattle.mt_model.specs.declared.database.PrivateDatabase.{PrivateDatabase}
@@ -29,6 +29,7 @@ pub record IsLeft (tables : List Table) (old new : PrivateDatabase) (reply : Rep
   pub reply_is : reply ≡ Memory
   pub next_is : whole tables new ≡ whole tables old
 
+-- a statement is done or refused as the model says, or left for want of memory
 abbrev pub IsAnswered : List Table → PrivateDatabase → PrivateDatabase → Said SimpleStmt → Reply → Type 0
 IsAnswered tables old new said reply = IsDone tables old new said reply ⊎ IsLeft tables old new reply
 

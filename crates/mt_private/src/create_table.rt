@@ -6,7 +6,7 @@ ghost use Rattle.mt_model.specs.Service.{Service};
 
 use crate::names::{has_repeat, table_number};
 use mt_list::List;
-use mt_tree::{Code, Column, Columns, Def, DefKind, Kind, Table};
+use mt_tree::{Code, Column, Columns, DefKind, Kind, SimpleDef, Table};
 use mt_value::Str;
 use std::alloc::{AllocError, Global};
 
@@ -19,7 +19,7 @@ const COLUMNS_MAX: usize = 16;
 const SIZE_MAX: u64 = 120;
 
 /// Why a table of that name and these columns is not made.
-pub(crate) fn table_refusal(tables: &[Table], name: &Str, defs: &[Def]) -> Option<Code>
+pub(crate) fn table_refusal(tables: &[Table], name: &Str, defs: &[SimpleDef]) -> Option<Code>
     ensures { (service : Service) → service.tables ≡ tables.now → result ≡ first_holding (table_tests service name.now defs.now) }
 {
     if table_number(tables, name).is_some() {
@@ -35,7 +35,7 @@ pub(crate) fn table_refusal(tables: &[Table], name: &Str, defs: &[Def]) -> Optio
 }
 
 /// Whether a VARCHAR is of a size that there is not.
-fn has_wrong_size(defs: &[Def]) -> bool
+fn has_wrong_size(defs: &[SimpleDef]) -> bool
     ensures { result ≡ list_any (λ def. not (is_size_within def.kind)) defs.now }
 {
     defs.iter().any(|def| !is_size_within(def.kind))
@@ -51,7 +51,7 @@ fn is_size_within(kind: DefKind) -> bool
 }
 
 /// The table of that name and these columns.
-pub(crate) fn table_of(alloc: Global, name: Str, defs: List<Def>) -> Result<Table, AllocError>
+pub(crate) fn table_of(alloc: Global, name: Str, defs: List<SimpleDef>) -> Result<Table, AllocError>
     requires { All (λ def. IsTrue (is_size_within def.kind)) defs }
     ensures { IfOk result (λ table. table ≡ table_of_defs name defs) }
 {
@@ -62,7 +62,7 @@ pub(crate) fn table_of(alloc: Global, name: Str, defs: List<Def>) -> Result<Tabl
 }
 
 /// The columns that are defined.
-fn columns_of(alloc: Global, defs: List<Def>) -> Result<Columns, AllocError>
+fn columns_of(alloc: Global, defs: List<SimpleDef>) -> Result<Columns, AllocError>
     requires { All (λ def. IsTrue (is_size_within def.kind)) defs }
     ensures { IfOk result (λ columns. columns ≡ map column_of defs) }
 {
@@ -74,7 +74,7 @@ fn columns_of(alloc: Global, defs: List<Def>) -> Result<Columns, AllocError>
 }
 
 /// The column of a definition. Nothing forbids NULL in it, and it is of no key.
-fn column_of(def: Def) -> Column
+fn column_of(def: SimpleDef) -> Column
     requires { IsTrue (is_size_within def.kind) }
     ensures { result ≡ column_of def }
 {

@@ -3,7 +3,7 @@ ghost use Rattle.std.specs.List.{list_any};
 ghost use Rattle.std.specs.Str.{bytes_eq};
 ghost use Rattle.mt_model.specs.Tables.{table_number, column_place, has_repeat};
 
-use mt_tree::{Column, Def, Table};
+use mt_tree::{Column, SimpleDef, Table};
 use mt_value::Str;
 
 /// The number of the table of that name.
@@ -22,7 +22,7 @@ pub(crate) fn column_place(columns: &[Column], name: &Str) -> Option<usize>
 
 /// Whether a name stands twice.
 #[tactic(auto, using(crate::proofs::Repeats::list_any_names))]
-pub(crate) fn has_repeat(defs: &[Def]) -> bool
+pub(crate) fn has_repeat(defs: &[SimpleDef]) -> bool
     ensures { result ≡ has_repeat (map (λ def. def.name) defs.now) }
 {
     let mut rest = defs;
@@ -36,7 +36,7 @@ pub(crate) fn has_repeat(defs: &[Def]) -> bool
 }
 
 /// Whether the name is that of one of these.
-fn is_among(name: &Str, defs: &[Def]) -> bool
+fn is_among(name: &Str, defs: &[SimpleDef]) -> bool
     ensures { result ≡ list_any (λ def. bytes_eq name.now def.name) defs.now }
 {
     defs.iter().any(|def| *name == def.name)

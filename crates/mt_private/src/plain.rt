@@ -1,7 +1,7 @@
 ghost use Rattle.std.specs.Prelude.{◌≡◌, ℕ, IfOk};
-ghost use Rattle.mt_tree.specs.declared.command.AdminCmd.{AdminCmd};
-ghost use Rattle.mt_tree.specs.declared.command.AdminCmd.TheVariants.{CreateTable, CreateTenant};
-ghost use Rattle.mt_tree.specs.declared.statement.SimpleStmt.{SimpleStmt};
+ghost use Rattle.mt_tree.specs.declared.simple.SimpleCmd.{SimpleCmd};
+ghost use Rattle.mt_tree.specs.declared.simple.SimpleCmd.TheVariants.{CreateTable, CreateTenant};
+ghost use Rattle.mt_tree.specs.declared.simple.SimpleStmt.{SimpleStmt};
 ghost use Rattle.mt_script.specs.Lines.{Text};
 ghost use Rattle.mt_grammar.specs.Reading.{Said, Says, IsSaid};
 ghost use Rattle.mt_grammar.specs.Simple.{SpellsStatement, IsInside, SpellsCommand, IsCommandInside};
@@ -12,7 +12,7 @@ use crate::statement::statement;
 use mt_grammar::{SimpleFault, each_text_says_something, simple_command};
 use mt_list::List;
 use mt_script::split_tag;
-use mt_tree::{AdminCmd, Code, Def, Reply, ReplyText, Schema, Who};
+use mt_tree::{Code, Reply, ReplyText, Schema, SimpleCmd, SimpleDef, Who};
 use mt_value::Str;
 use std::alloc::{AllocError, Global};
 use std::marker::Model;
@@ -89,12 +89,12 @@ impl Plain {
 
     // Answers the administrator's line by the text behind its tag.
     fn command(&mut self, text: &str) -> Reply
-        ensures { (said : Said AdminCmd) × IsSaid SpellsCommand IsCommandInside text.now said × ComesTo self.old (Command said) result self.new }
+        ensures { (said : Said SimpleCmd) × IsSaid SpellsCommand IsCommandInside text.now said × ComesTo self.old (Command said) result self.new }
     {
         each_text_says_something();
         match simple_command(self.alloc, text) {
-            Ok(AdminCmd::CreateTable { name, columns }) => self.create_table(name, columns),
-            Ok(AdminCmd::CreateTenant { tenant, quota }) => self.create_tenant(tenant, quota),
+            Ok(SimpleCmd::CreateTable { name, columns }) => self.create_table(name, columns),
+            Ok(SimpleCmd::CreateTenant { tenant, quota }) => self.create_tenant(tenant, quota),
             Err(SimpleFault::Unserved) => Reply::Refused(Code::NotServed),
             Err(SimpleFault::Outside) => Reply::Refused(Code::NumberOutside64Bits),
             Err(SimpleFault::Memory) => Reply::Memory,
@@ -102,7 +102,7 @@ impl Plain {
     }
 
     // Makes a table. No tenant has a content of it until it inserts a row there.
-    fn create_table(&mut self, name: Str, columns: List<Def>) -> Reply
+    fn create_table(&mut self, name: Str, columns: List<SimpleDef>) -> Reply
         ensures { ComesTo self.old (Command (Says (CreateTable name columns))) result self.new }
     {
         if let Some(code) = table_refusal(self.tables.as_slice(), &name, columns.as_slice()) {

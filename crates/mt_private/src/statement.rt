@@ -1,4 +1,4 @@
-ghost use Rattle.mt_tree.specs.declared.statement.SimpleStmt.{SimpleStmt};
+ghost use Rattle.mt_tree.specs.declared.simple.SimpleStmt.{SimpleStmt};
 ghost use Rattle.mt_grammar.specs.Reading.{Said, IsSaid};
 ghost use Rattle.mt_grammar.specs.Simple.{SpellsStatement, IsInside};
 ghost use Rattle.mt_private.specs.Kept.{IsDatabase};

@@ -31,6 +31,7 @@ line_of bytes = if nat_lt 65536 (length bytes) then TooLong else Text (without_r
 abbrev pub every_line : List ℕ → List Line
 every_line bytes = map line_of (cut bytes)
 
+-- a space or a tab
 abbrev pub is_blank : ℕ → Bool
 is_blank b = (b == 32) || (b == 9)
 
@@ -47,6 +48,7 @@ is_answered (Text bytes) = not (is_silent bytes)
 abbrev pub lines_of : List ℕ → List Line
 lines_of bytes = filter is_answered (every_line bytes)
 
+-- whether some line ends in these bytes
 abbrev pub has_line_feed : List ℕ → Bool
 has_line_feed bytes = list_any (λ b. b == 10) bytes
 

@@ -5,6 +5,7 @@ use Rattle.mt_tree.specs.declared.who.Who.{Who}
 use Rattle.mt_tree.specs.declared.who.Who.TheVariants.{Admin, Tenant}
 use Rattle.mt_script.specs.Lines.{is_blank}
 
+-- how a tag is written
 abbrev pub tag_bytes : Who → List ℕ
 tag_bytes Admin = codes "@admin"
 tag_bytes (Tenant tenant) = 64 ∷ decimal tenant

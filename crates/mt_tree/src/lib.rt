@@ -5,16 +5,24 @@
 
 mod code;
 mod command;
+mod expression;
+mod name;
 mod reply;
 mod schema;
+mod simple;
 mod statement;
 mod who;
 
 pub use code::Code;
-pub use command::{AdminCmd, Def, DefKind};
+pub use command::{AdminCmd, ChunkText, Def, DefKind, FoldText};
+pub use expression::{Agg, Atom, Cond, Expr, Literal, Term};
+pub use name::{ColName, Names};
 pub use reply::{Reply, ReplyText};
 pub use schema::{Column, Columns, Kind, Schema, Table};
-pub use statement::{Literal, Names, SimpleStmt, Tuple};
+pub use simple::{SimpleCmd, SimpleDef, SimpleStmt};
+pub use statement::{
+    Filter, Insert, Item, OrderBy, OrderKey, Ref, Select, SetItem, Stmt, Tuple, Update,
+};
 pub use who::Who;
 
 #[cfg(test)]

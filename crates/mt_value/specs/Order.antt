@@ -27,6 +27,7 @@ value_order (Text s) (Text t) = slice_cmp nat_cmp s t
 abbrev pub row_order : List Value → List Value → Ordering
 row_order a b = slice_cmp value_order a b
 
+-- the null value of SQL:1999
 abbrev pub is_null : Value → Bool
 is_null Null = true
 is_null (Int x) = false
@@ -41,6 +42,7 @@ holds Le o = is_le o
 holds Gt o = is_gt o
 holds Ge o = is_ge o
 
+-- True and False of the three truth values
 abbrev pub truth_of : Bool → Truth
 truth_of true = True
 truth_of false = False

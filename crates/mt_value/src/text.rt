@@ -58,6 +58,7 @@ impl Str {
         }
     }
 
+    /// The characters.
     pub fn as_str(&self) -> &str
         ensures { result.now ≡ self.now }
     {

@@ -2,9 +2,9 @@
 use Rattle.std.proofs.Common.{◌∙◌, ap, map}
 use Rattle.std.proofs.lemmas.Result.{err_from_is_err_and}
 use Rattle.mt_grammar.specs.Descent.{command_of}
-use Rattle.mt_grammar.specs.Pieces.{lexeme_at}
+use Rattle.mt_reader.specs.Pieces.{lexeme_at}
 use Rattle.mt_grammar.specs.Simple.{SpellsCommand, IsCommandInside}
-use Rattle.mt_grammar.proofs.Lexemes.{tokens_say}
+use Rattle.mt_reader.proofs.Lexemes.{tokens_say}
 use Rattle.mt_grammar.proofs.Statements.{command_sound, command_complete}
 use Rattle.mt_grammar.proofs.Texts.{gives_answer, gives_fault}
 use Rattle.mt_grammar.proofs.simple.simple_command.Goals as goal

@@ -2,9 +2,9 @@
 use Rattle.std.proofs.Common.{◌∙◌, ap, map}
 use Rattle.std.proofs.lemmas.Result.{err_from_is_err_and}
 use Rattle.mt_grammar.specs.Descent.{statement_of}
-use Rattle.mt_grammar.specs.Pieces.{lexeme_at}
+use Rattle.mt_reader.specs.Pieces.{lexeme_at}
 use Rattle.mt_grammar.specs.Simple.{SpellsStatement, IsInside}
-use Rattle.mt_grammar.proofs.Lexemes.{tokens_say}
+use Rattle.mt_reader.proofs.Lexemes.{tokens_say}
 use Rattle.mt_grammar.proofs.Statements.{statement_sound, statement_complete}
 use Rattle.mt_grammar.proofs.Texts.{gives_answer, gives_fault}
 use Rattle.mt_grammar.proofs.simple.simple_statement.Goals as goal

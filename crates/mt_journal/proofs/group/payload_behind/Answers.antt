@@ -1,6 +1,6 @@
 use Rattle.std.proofs.Common.{arith}
 use Rattle.mt_journal.proofs.Chains.{group_end}
-use Rattle.mt_journal.proofs.Leaving.{looks_none}
+use Rattle.mt_machine.specs.LeavesLaws.{looks_itself}
 use Rattle.mt_journal.proofs.group.payload_behind.Goals as goal
 use Rattle.mt_journal.proofs.group.payload_behind.Goals.{then-length-lt4-via-then-length-lt4, then-length-lt4-via-else-length-lt4+then-length-at}
 
@@ -11,7 +11,7 @@ returns-then-at-lt14-clause-found g c t ranges end group =
     omega (arith, last, within)
 
 pub returns-then-at-lt14-clause-looks : goal.returns-then-at-lt14-clause-looks
-returns-then-at-lt14-clause-looks g c = looks_none (g.M.Machine.meaning c.args.m.now) c.requires.told (λ t image out. g.met.M.Machine.only_now c.args.m.now image out t)
+returns-then-at-lt14-clause-looks g c = looks_itself (g.M.Machine.meaning c.args.m.now) c.requires.told (λ t image out. g.met.M.Machine.only_now c.args.m.now image out t)
 
 pub returns-then-length-lt4-clause-found : goal.returns-then-length-lt4-clause-found
 returns-then-length-lt4-clause-found g c t ranges end group =

@@ -2,14 +2,14 @@ use Rattle.std.proofs.Common.{◌≡◌, ℕ, arith, subst}
 use Rattle.mt_machine.specs.declared.machine.Area.TheVariants.{Log}
 use Rattle.mt_journal.specs.Walk.{Fill}
 use Rattle.mt_journal.proofs.Fills.{fill_none, fill_answers, fill_step, fill_ends}
-use Rattle.mt_journal.proofs.Leaving.{looks_none, looks_join}
+use Rattle.mt_machine.specs.LeavesLaws.{looks_itself, looks_then}
 use Rattle.mt_journal.proofs.group.ranges_fill.Goals as goal
 
 pub loop-init : goal.loop-init
 loop-init g c = record {
   low = omega arith;
   high = c.requires.order;
-  looks = looks_none (g.M.Machine.meaning c.args.m.now) c.requires.told (λ t image out. g.met.M.Machine.only_now c.args.m.now image out t);
+  looks = looks_itself (g.M.Machine.meaning c.args.m.now) c.requires.told (λ t image out. g.met.M.Machine.only_now c.args.m.now image out t);
   beneath = g.met.M.Machine.beneath_itself c.args.m.now;
   read = λ t. fill_none ((g.M.Machine.meaning c.args.m.now).content Log) c.args.at;
 }
@@ -18,7 +18,7 @@ pub range_within-requires-clause-told : goal.range_within-requires-clause-told
 range_within-requires-clause-told g c t = (c.loop.invariant.looks.leaves.told_moments t).1
 
 pub returns-in_err-range-clause-looks : goal.returns-in_err-range-clause-looks
-returns-in_err-range-clause-looks g c = looks_join _ _ _ c.loop.invariant.looks c.range_within.ensures.looks
+returns-in_err-range-clause-looks g c = looks_then c.loop.invariant.looks c.range_within.ensures.looks
 
 pub returns-in_err-range-clause-beneath : goal.returns-in_err-range-clause-beneath
 returns-in_err-range-clause-beneath g c = g.met.M.Machine.beneath_both _ _ _ c.loop.invariant.beneath c.range_within.ensures.beneath
@@ -29,7 +29,7 @@ returns-in-None-clause-found g c =
     fill_ends _ _ _ c.loop.invariant.looks c.range_within.ensures.looks c.args.at c.loop.place c.args.end c.loop.counter c.args.count c.loop.invariant.read c.loop-test.true found
 
 pub returns-in-None-clause-looks : goal.returns-in-None-clause-looks
-returns-in-None-clause-looks g c = looks_join _ _ _ c.loop.invariant.looks c.range_within.ensures.looks
+returns-in-None-clause-looks g c = looks_then c.loop.invariant.looks c.range_within.ensures.looks
 
 pub returns-in-None-clause-beneath : goal.returns-in-None-clause-beneath
 returns-in-None-clause-beneath g c = g.met.M.Machine.beneath_both _ _ _ c.loop.invariant.beneath c.range_within.ensures.beneath
@@ -46,7 +46,7 @@ loop-preserved g c =
     record {
       low = omega (arith, c.loop.invariant.low, bounds.1);
       high = bounds.2;
-      looks = looks_join _ _ _ c.loop.invariant.looks c.range_within.ensures.looks;
+      looks = looks_then c.loop.invariant.looks c.range_within.ensures.looks;
       beneath = g.met.M.Machine.beneath_both _ _ _ c.loop.invariant.beneath c.range_within.ensures.beneath;
       read = fill_step _ _ _ c.loop.invariant.looks c.range_within.ensures.looks c.args.at c.loop.place c.loop.counter c.in-Some.range c.loop.invariant.read found;
     }

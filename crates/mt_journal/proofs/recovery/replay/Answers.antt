@@ -1,14 +1,14 @@
 use Rattle.std.proofs.Common.{arith}
 use Rattle.std.proofs.lemmas.Result.{err_from_is_err_and}
 use Rattle.mt_journal.proofs.Faults.{err_same}
-use Rattle.mt_journal.proofs.Leaving.{looks_none}
+use Rattle.mt_machine.specs.LeavesLaws.{looks_itself}
 use Rattle.mt_journal.proofs.Placing.{quiet_leaves, quiet_join}
 use Rattle.mt_journal.proofs.Walks.{replayed_none, replayed_places, replayed_placed, replay_stops, replay_goes_on, replay_refused}
 use Rattle.mt_journal.proofs.recovery.replay.Goals as goal
 
 pub loop-at-init : goal.loop-at-init
 loop-at-init g c =
-    let looks = looks_none (g.M.Machine.meaning c.args.m.now) c.requires.told (λ t image out. g.met.M.Machine.only_now c.args.m.now image out t) in
+    let looks = looks_itself (g.M.Machine.meaning c.args.m.now) c.requires.told (λ t image out. g.met.M.Machine.only_now c.args.m.now image out t) in
     record {
       within = omega arith;
       quiet = quiet_leaves _ _ _ looks.leaves;

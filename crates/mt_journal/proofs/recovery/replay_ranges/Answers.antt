@@ -1,13 +1,13 @@
 use Rattle.std.proofs.lemmas.Result.{err_from_is_err_and}
 use Rattle.mt_journal.proofs.Faults.{err_same}
-use Rattle.mt_journal.proofs.Leaving.{looks_none}
+use Rattle.mt_machine.specs.LeavesLaws.{looks_itself}
 use Rattle.mt_journal.proofs.Placing.{quiet_leaves, quiet_join}
 use Rattle.mt_journal.proofs.Walks.{part_none, part_places, part_placed, part_stops, part_more, part_refused}
 use Rattle.mt_journal.proofs.recovery.replay_ranges.Goals as goal
 
 pub loop-place-init : goal.loop-place-init
 loop-place-init g c =
-    let looks = looks_none (g.M.Machine.meaning c.args.m.now) c.requires.told (λ t image out. g.met.M.Machine.only_now c.args.m.now image out t) in
+    let looks = looks_itself (g.M.Machine.meaning c.args.m.now) c.requires.told (λ t image out. g.met.M.Machine.only_now c.args.m.now image out t) in
     record {
       high = c.requires.order;
       quiet = quiet_leaves _ _ _ looks.leaves;

@@ -1,20 +1,20 @@
 use Rattle.std.proofs.Common.{refl}
-use Rattle.mt_journal.proofs.Leaving.{sync_looks, looks_join}
+use Rattle.mt_machine.specs.LeavesLaws.{sync_looks, looks_then}
 use Rattle.mt_journal.proofs.Recovering.{durable_looks, chain_found, replay_leaves, close_leaves, close_recovers}
 use Rattle.mt_journal.proofs.journal.Journal.recover.Goals as goal
 
 pub returns-in_err-replay-clause-any_moment : goal.returns-in_err-replay-clause-any_moment
 returns-in_err-replay-clause-any_moment g c =
-    let synced = sync_looks _ _ _ c.sync.ensures.effect in
-    let read = looks_join _ _ _ synced c.chain_end.ensures.looks in
+    let synced = sync_looks c.sync.ensures.effect in
+    let read = looks_then synced c.chain_end.ensures.looks in
     let durable = durable_looks _ _ c.chain_end.ensures.looks c.in_ok-sync.ensures.effect.durable in
     let found = chain_found _ _ _ synced c.chain_end.ensures.looks c.in_ok-end.end c.in_ok-end.ensures.found in
     replay_leaves _ _ _ c.in_ok-end.end read durable found c.replay.ensures.quiet c.replay.ensures.places
 
 pub returns-in_err-close_first-clause-any_moment : goal.returns-in_err-close_first-clause-any_moment
 returns-in_err-close_first-clause-any_moment g c =
-    let synced = sync_looks _ _ _ c.sync.ensures.effect in
-    let read = looks_join _ _ _ synced c.chain_end.ensures.looks in
+    let synced = sync_looks c.sync.ensures.effect in
+    let read = looks_then synced c.chain_end.ensures.looks in
     let durable = durable_looks _ _ c.chain_end.ensures.looks c.in_ok-sync.ensures.effect.durable in
     let found = chain_found _ _ _ synced c.chain_end.ensures.looks c.in_ok-end.end c.in_ok-end.ensures.found in
     close_leaves _ _ _ c.in_ok-end.end read durable found c.replay.ensures.quiet c.replay.ensures.places _ c.if-end-eq0.false c.in_ok-replay.ensures.placed
@@ -22,8 +22,8 @@ returns-in_err-close_first-clause-any_moment g c =
 
 pub returns-clause-any_moment : goal.returns-clause-any_moment
 returns-clause-any_moment g c =
-    let synced = sync_looks _ _ _ c.sync.ensures.effect in
-    let read = looks_join _ _ _ synced c.chain_end.ensures.looks in
+    let synced = sync_looks c.sync.ensures.effect in
+    let read = looks_then synced c.chain_end.ensures.looks in
     let durable = durable_looks _ _ c.chain_end.ensures.looks c.in_ok-sync.ensures.effect.durable in
     let found = chain_found _ _ _ synced c.chain_end.ensures.looks c.in_ok-end.end c.in_ok-end.ensures.found in
     close_leaves _ _ _ c.in_ok-end.end read durable found c.replay.ensures.quiet c.replay.ensures.places _ c.if-end-eq0.false c.in_ok-replay.ensures.placed
@@ -31,8 +31,8 @@ returns-clause-any_moment g c =
 
 pub returns-clause-ok : goal.returns-clause-ok
 returns-clause-ok g c =
-    let synced = sync_looks _ _ _ c.sync.ensures.effect in
-    let read = looks_join _ _ _ synced c.chain_end.ensures.looks in
+    let synced = sync_looks c.sync.ensures.effect in
+    let read = looks_then synced c.chain_end.ensures.looks in
     let durable = durable_looks _ _ c.chain_end.ensures.looks c.in_ok-sync.ensures.effect.durable in
     let found = chain_found _ _ _ synced c.chain_end.ensures.looks c.in_ok-end.end c.in_ok-end.ensures.found in (
       refl,

@@ -1,7 +1,7 @@
 -- A table that is made is kept, and the service has it.
 use Rattle.std.proofs.Common.{List, sym, ap, ◌∙◌}
-use Rattle.mt_tree.specs.declared.command.AdminCmd.TheVariants.{CreateTable}
-use Rattle.mt_tree.specs.declared.command.Def.{Def}
+use Rattle.mt_tree.specs.declared.simple.SimpleCmd.TheVariants.{CreateTable}
+use Rattle.mt_tree.specs.declared.simple.SimpleDef.{SimpleDef}
 use Rattle.mt_tree.specs.declared.schema.Table.{Table}
 use Rattle.mt_model.specs.Answer.{first_holding}
 use Rattle.mt_model.specs.Command.{table_tests}
@@ -13,7 +13,7 @@ use Rattle.mt_private.proofs.plain.Plain.create_table.Goals as goal
 pub table_of-requires : goal.table_of-requires
 table_of-requires c =
     let service = service_of c.self.inside.tables c.self.inside.tenants.entries in
-    let tests = c.in_default.ensures service (sym c.as_slice.ensures) ∙ ap (λ (defs : List Def). first_holding (table_tests service c.args.name defs)) c.as_slice-2.ensures in
+    let tests = c.in_default.ensures service (sym c.as_slice.ensures) ∙ ap (λ (defs : List SimpleDef). first_holding (table_tests service c.args.name defs)) c.as_slice-2.ensures in
     each-within service c.args.name c.args.columns tests
 
 pub invariant_of-self-2 : goal.invariant_of-self-2
@@ -22,7 +22,7 @@ invariant_of-self-2 c = rw c.in-Ok-push.ensures.ok (AreKept-push c.self.inside.t
 pub returns : goal.returns
 returns c =
     let service = service_of c.self.inside.tables c.self.inside.tenants.entries in
-    let tests = c.in_default.ensures service (sym c.as_slice.ensures) ∙ ap (λ (defs : List Def). first_holding (table_tests service c.args.name defs)) c.as_slice-2.ensures in
+    let tests = c.in_default.ensures service (sym c.as_slice.ensures) ∙ ap (λ (defs : List SimpleDef). first_holding (table_tests service c.args.name defs)) c.as_slice-2.ensures in
     let made =
     ap (λ (tables : List Table). service_of tables c.self.inside.tenants.entries) c.in-Ok-push.ensures.ok
     ∙ made-table c.self.inside.tables c.in-Ok-table_of.table c.self.inside.tenants.entries c.args.name c.args.columns c.self.invariant c.in-Ok-table_of.ensures in

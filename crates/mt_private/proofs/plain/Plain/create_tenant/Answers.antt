@@ -3,7 +3,7 @@ use Rattle.std.proofs.Common.{◌<◌, ◌^◌, sym, arith}
 use Rattle.std.proofs.lemmas.Grind.{common_steps}
 use Rattle.mt_private.specs.Kept.{service_of, IsDatabase}
 use Rattle.mt_private.proofs.Steps.{AreKept-put, command-done, made-tenant}
-use Rattle.mt_tree.specs.declared.command.AdminCmd.TheVariants.{CreateTenant}
+use Rattle.mt_tree.specs.declared.simple.SimpleCmd.TheVariants.{CreateTenant}
 use Rattle.mt_private.proofs.plain.Plain.create_tenant.Goals as goal
 
 pub invariant_of-self-2 : goal.invariant_of-self-2

@@ -1,0 +1,10 @@
+pub mod Fronts
+pub mod Joining
+pub mod Lexemes
+pub mod Lists
+pub mod Literals
+pub mod Numbers
+pub mod Parts
+pub mod Quoting
+pub mod Spelling
+pub mod Steps

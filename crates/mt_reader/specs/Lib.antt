@@ -1,0 +1,9 @@
+pub mod Descent
+pub mod Forms
+pub mod Fronts
+pub mod Lexing
+pub mod Literals
+pub mod Names
+pub mod Pieces
+pub mod Shrinking
+pub mod Taken

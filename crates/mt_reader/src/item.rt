@@ -1,0 +1,81 @@
+ghost use Rattle.std.specs.Prelude.{◌≡◌, ◌<◌, Option, Some, List, length, IfOk};
+ghost use Rattle.std.specs.List.{All};
+ghost use Rattle.mt_lexer.specs.Tokens.{Lexeme, Sign};
+ghost use Rattle.mt_reader.specs.Descent.{separated_of, pushed};
+ghost use Rattle.mt_reader.specs.Taken.{TakesInside};
+
+use crate::ReadFault;
+use crate::reader::Reader;
+use mt_lexer::Symbol;
+use mt_list::List;
+use mt_value::Str;
+use std::alloc::{AllocError, Global};
+
+/// A form that may stand in a list with commas between. It is a type with no values, so that a crate
+/// can say how the trees of another one are read.
+pub trait Item {
+    /// What the form spells.
+    type Tree: Drop;
+
+    ghost read: { List Lexeme → Option (Self.Tree × List Lexeme) };
+
+    ghost is_inside: { Self.Tree → Type 0 };
+
+    /// Takes an item; `None` is one with a number outside 64 bits.
+    fn take(alloc: Global, reader: &mut Reader<'_>) -> Result<Option<Self::Tree>, ReadFault>
+        ensures { TakesInside is_inside result reader.new (read reader.old) };
+
+    ghost shrinks: { (lexemes rest : List Lexeme) (item : Self.Tree) → read lexemes ≡ Some (item, rest) → length rest < length lexemes };
+}
+
+/// A name, as an item of a list.
+pub enum NameForm {}
+
+impl Item for NameForm {
+    ghost use Rattle.mt_reader.specs.Descent.{name_of};
+    ghost use Rattle.mt_reader.specs.Shrinking.{name_shrinks};
+
+    type Tree = Str;
+
+    ghost read = { name_of };
+
+    ghost is_inside = { λ _. Unit {0} };
+
+    ghost shrinks = { name_shrinks };
+
+    fn take(alloc: Global, reader: &mut Reader<'_>) -> Result<Option<Str>, ReadFault> {
+        Ok(Some(reader.name(alloc)?))
+    }
+}
+
+/// Takes items with commas between them, one or more; `None` is for a number outside 64 bits.
+pub fn separated<I: Item>(
+    alloc: Global,
+    reader: &mut Reader<'_>,
+) -> Result<Option<List<I::Tree>>, ReadFault>
+    ensures { TakesInside (All I.is_inside) result reader.new (separated_of I.read (Sign Symbol.Comma) reader.old) }
+{
+    let mut items = Some(List::new(alloc));
+    loop {
+        items = pushed(items, I::take(alloc, reader)?)?;
+        if !reader.takes_symbol(Symbol::Comma) {
+            return Ok(items);
+        }
+    }
+}
+
+/// The items with one more, if all are there and it is.
+pub fn pushed<T: Drop>(
+    items: Option<List<T>>,
+    item: Option<T>,
+) -> Result<Option<List<T>>, AllocError>
+    ensures { IfOk result (λ more. more ≡ pushed items item) }
+{
+    match (items, item) {
+        (Some(mut items), Some(item)) => {
+            items.push(item)?;
+            Ok(Some(items))
+        }
+        _ => Ok(None),
+    }
+}

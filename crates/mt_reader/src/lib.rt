@@ -1,0 +1,23 @@
+//! What every reader of the language shares: the tokens that are left, words, names, numbers, texts,
+//! literals, and lists with commas. It promises that each reader takes what its form spells and else
+//! says so, and that a number outside 64 bits is told apart while the reading goes on.
+#![tactic(auto)]
+
+mod digits;
+mod fault;
+mod item;
+mod literal;
+mod piece;
+mod reader;
+mod word;
+
+pub use digits::size_of;
+pub use fault::ReadFault;
+pub use item::{Item, NameForm, pushed, separated};
+pub use literal::LiteralForm;
+pub use piece::Piece;
+pub use reader::Reader;
+pub use word::is_reserved;
+
+#[cfg(test)]
+mod tests;

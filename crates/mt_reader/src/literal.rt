@@ -1,0 +1,81 @@
+ghost use Rattle.std.specs.Prelude.{◌≡◌, pos, neg_ℤ, IfOk, IsUtf8};
+ghost use Rattle.std.specs.List.{AllPass};
+ghost use Rattle.std.specs.Str.Parse.{digits_value};
+ghost use Rattle.mt_lexer.specs.Tokens.{is_digit};
+ghost use Rattle.mt_reader.specs.Pieces.{undoubled};
+ghost use Rattle.mt_reader.specs.Literals.{IsLiteralInside};
+ghost use Rattle.mt_reader.specs.Taken.{Keeps};
+
+use crate::ReadFault;
+use crate::digits::{integer_of, negative_of};
+use crate::item::Item;
+use crate::piece::{Piece, undoubled};
+use crate::reader::{Reader, text_of};
+use mt_lexer::Symbol;
+use mt_tree::Literal;
+use std::alloc::{AllocError, Global};
+
+/// A literal, as an item of a list.
+pub enum LiteralForm {}
+
+impl Item for LiteralForm {
+    ghost use Rattle.mt_reader.specs.Descent.{literal_of};
+    ghost use Rattle.mt_reader.specs.Literals.{IsLiteralInside};
+    ghost use Rattle.mt_reader.specs.Shrinking.{literal_shrinks};
+
+    type Tree = Literal;
+
+    ghost read = { literal_of };
+
+    ghost is_inside = { IsLiteralInside };
+
+    ghost shrinks = { literal_shrinks };
+
+    fn take(alloc: Global, reader: &mut Reader<'_>) -> Result<Option<Literal>, ReadFault> {
+        match reader.peek() {
+            Some(Piece::Word(_)) => {
+                reader.word(b"null")?;
+                Ok(Some(Literal::Null))
+            }
+            Some(Piece::Number(digits)) => {
+                reader.skip();
+                Ok(integer(digits))
+            }
+            Some(Piece::Text(bytes)) => {
+                reader.skip();
+                Ok(Some(literal_text(alloc, bytes)?))
+            }
+            Some(Piece::Symbol(_)) => {
+                reader.symbol(Symbol::Minus)?;
+                let digits = reader.number()?;
+                Ok(negative(digits))
+            }
+            None => Err(ReadFault::Unread),
+        }
+    }
+}
+
+/// The integer that digits spell.
+fn integer(digits: &[u8]) -> Option<Literal>
+    requires { AllPass is_digit digits.now }
+    ensures { Keeps IsLiteralInside result (Literal.Int (pos (digits_value 10 digits.now))) }
+{
+    Some(Literal::Int(integer_of(digits)?))
+}
+
+/// The integer that a minus and digits spell.
+fn negative(digits: &[u8]) -> Option<Literal>
+    requires { AllPass is_digit digits.now }
+    ensures { Keeps IsLiteralInside result (Literal.Int (neg_ℤ (pos (digits_value 10 digits.now)))) }
+{
+    Some(Literal::Int(negative_of(digits)?))
+}
+
+/// The text between quotes.
+fn literal_text(alloc: Global, bytes: &[u8]) -> Result<Literal, AllocError>
+    requires { IsUtf8 (undoubled bytes.now) }
+    ensures { IfOk result (λ literal. literal ≡ Literal.Text (undoubled bytes.now)) }
+{
+    let text = undoubled(alloc, bytes)?;
+    Ok(Literal::Text(text_of(alloc, text.as_slice())?))
+}

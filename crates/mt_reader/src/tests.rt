@@ -1,0 +1,72 @@
+use crate::{LiteralForm, NameForm, ReadFault, Reader, is_reserved, separated};
+use mt_lexer::tokens;
+use mt_tree::Literal;
+use std::alloc::{AllocError, Global};
+use std::test::Fail;
+
+#[test]
+fn knows_reserved_words(rt: HostRuntime) {
+    for word in ["and", "SELECT", "Values", "wHERE"] {
+        assert!(rt; is_reserved(word.as_bytes()), "{word} is reserved");
+    }
+    for word in ["", "an", "create", "table", "tenant", "quota", "selects"] {
+        assert!(rt; !is_reserved(word.as_bytes()), "{word} is a name");
+    }
+}
+
+/// Literals behind names, in few words.
+fn show(out: &mut String, alloc: Global, reader: &mut Reader<'_>) -> Result<(), ReadFault> {
+    let names = separated::<NameForm>(alloc, reader)?;
+    let literals = separated::<LiteralForm>(alloc, reader)?;
+    reader.end()?;
+    let (Some(names), Some(literals)) = (names, literals) else {
+        out.push_str("outside")?;
+        return Ok(());
+    };
+    for name in names.as_slice() {
+        out.push_str(name.as_str())?;
+        out.push_str(" ")?;
+    }
+    for literal in literals.as_slice() {
+        match literal {
+            Literal::Null => out.push_str("NULL ")?,
+            Literal::Int(number) => write!(out, "{number} ")?,
+            Literal::Text(text) => {
+                out.push_str("'")?;
+                out.push_str(text.as_str())?;
+                out.push_str("' ")?;
+            }
+        }
+    }
+    Ok(())
+}
+
+/// What a text reads as.
+fn reading(alloc: Global, text: &str) -> Result<String, Fail> {
+    let found = tokens(alloc, text)?;
+    let mut reader = Reader::new(text, found.as_slice());
+    let mut out = String::new(alloc);
+    match show(&mut out, alloc, &mut reader) {
+        Ok(()) => Ok(out),
+        Err(ReadFault::Unread) => Ok(String::from_str(alloc, "unread")?),
+        Err(ReadFault::Memory) => Err(AllocError)?,
+    }
+}
+
+#[test]
+fn reads_names_and_literals(rt: HostRuntime) -> Result<(), Fail> {
+    let table = [
+        ("A 1", "a 1 "),
+        ("a,b NULL, - 2,'it''s';", "a b NULL -2 'it's' "),
+        ("a 9223372036854775808, 1", "outside"),
+        ("a -9223372036854775808", "a -9223372036854775808 "),
+        ("a 1,", "unread"),
+        ("null 1", "unread"),
+        ("a 1;;", "unread"),
+    ];
+    for (text, want) in table {
+        let got = reading(rt.alloc(), text)?;
+        assert_eq!(rt; got.as_str(), want, "of {text}");
+    }
+    Ok(())
+}

@@ -1,0 +1,270 @@
+-- Conditions: what is read is spelled so, and what is spelled so is read.
+use Rattle.std.proofs.Common.{◌≡◌, ◌⊎◌, ℕ, zero, suc, ◌<◌, true, Option, Some, None, List, [], ◌∷◌, ◌++◌, length, refl, sym, ap, ◌∙◌, subst, append_assoc, length-append, inl, inr, arith}
+use Rattle.std.specs.Option.{option_and_then}
+use Rattle.std.specs.Prelude.{codes}
+use Rattle.mt_lexer.specs.declared.token.Symbol.TheVariants as symbol
+use Rattle.mt_lexer.specs.Tokens.{Lexeme, Word, Sign}
+use Rattle.mt_tree.specs.declared.expression.Atom.{Atom}
+use Rattle.mt_tree.specs.declared.expression.Cond.{Cond}
+use Rattle.mt_tree.specs.declared.expression.Cond.TheVariants as cond
+use Rattle.mt_reader.specs.Descent.{after, literal_of}
+use Rattle.mt_reader.specs.Forms.{Form, Bracketed, Behind, Joined}
+use Rattle.mt_reader.specs.Fronts.{Begins}
+use Rattle.mt_reader.specs.Names.{reserved}
+use Rattle.mt_reader.specs.Shrinking.{bind_some, same_tree, same_rest}
+use Rattle.mt_reader.proofs.Joining.{joined_sound, joined_complete_before}
+use Rattle.mt_reader.proofs.Spelling.{IsSound, IsCompleteBefore, Shrinks, sound_shrinks, separated_nonempty, after_is}
+use Rattle.mt_terms.specs.declared.test.Test.{Test}
+use Rattle.mt_terms.specs.declared.test.Test.TheVariants as test
+use Rattle.mt_terms.specs.Condition.{AtomThen, SpellsPlain, SpellsNegated, SpellsOr, SpellsNeg, SpellsCond}
+use Rattle.mt_terms.specs.Expression.{SpellsAtom}
+use Rattle.mt_terms.specs.Descent.{atom_of, literal_atom_of, reserved_atom_of, agg_of, test_of, cond_with, plain_of, and_of, or_of, open_behind, neg_behind, neg_of, cond_of}
+use Rattle.mt_terms.proofs.Atoms.{NoDot, atom_sound, atom_complete, atom_nonempty}
+use Rattle.mt_terms.proofs.Predicates.{SpellsTest, test_sound, test_complete, test_ends}
+
+-- predicates
+
+-- an atom and what is said of it spell a predicate
+with_spelled : (tokens : List Lexeme) (a : Atom) (t : Test) → AtomThen a (λ back. SpellsTest back t) tokens → SpellsPlain tokens (cond_with a t)
+with_spelled tokens a (test.Compare op right) s = s
+with_spelled tokens a (test.Member negated list) s = s
+with_spelled tokens a (test.Between negated low high) s = s
+with_spelled tokens a (test.Like negated pattern) s = s
+with_spelled tokens a (test.IsNull negated) s = s
+
+-- a predicate is an atom and what is said of it
+pub record IsWith (tokens : List Lexeme) (c : Cond) : Type 0 where
+  pub atom : Atom
+  pub test : Test
+  pub is : c ≡ cond_with atom test
+  pub spelled : AtomThen atom (λ back. SpellsTest back test) tokens
+
+plain_is : (tokens : List Lexeme) (c : Cond) → SpellsPlain tokens c → IsWith tokens c
+plain_is tokens (cond.Compare op left right) s = record { atom = left; test = test.Compare op right; is = refl; spelled = s }
+plain_is tokens (cond.Member negated a list) s = record { atom = a; test = test.Member negated list; is = refl; spelled = s }
+plain_is tokens (cond.Between negated a low high) s = record { atom = a; test = test.Between negated low high; is = refl; spelled = s }
+plain_is tokens (cond.Like negated a pattern) s = record { atom = a; test = test.Like negated pattern; is = refl; spelled = s }
+plain_is tokens (cond.IsNull negated a) s = record { atom = a; test = test.IsNull negated; is = refl; spelled = s }
+plain_is tokens other s = elim s [ ]
+
+-- what is read is a predicate
+plain_sound : IsSound SpellsPlain plain_of
+unfolding plain_of
+plain_sound lexemes rest c e =
+    let a = bind_some (atom_of lexemes) _ (c, rest) e in
+    let b = bind_some (test_of a.0.1) _ (c, rest) a.2 in
+    let s = atom_sound lexemes a.0.1 a.0.0 a.1 in
+    let t = test_sound a.0.1 b.0.1 b.0.0 b.1 in
+    record {
+      front = s.front ++ t.front;
+      whole = s.whole ∙ ap (λ ls. s.front ++ ls) (t.whole ∙ ap (λ ls. t.front ++ ls) (same_rest b.2)) ∙ sym (append_assoc s.front t.front rest);
+      spelled = subst (SpellsPlain (s.front ++ t.front)) (same_tree b.2) (with_spelled (s.front ++ t.front) a.0.0 b.0.0 (record { front = s.front; back = t.front; split = refl; is_left = s.spelled; is_right = t.spelled }));
+    }
+
+-- an atom and what is said of it are read
+with_complete : (front back more : List Lexeme) (a : Atom) (t : Test) → NoDot more → SpellsAtom front a → SpellsTest back t → plain_of (front ++ (back ++ more)) ≡ Some (cond_with a t, more)
+unfolding plain_of
+with_complete front back more a t end f s = rw (atom_complete front (back ++ more) a (test_ends back more t s) f, test_complete back more t end s) refl
+
+-- a predicate is read, where no dot follows
+plain_complete : IsCompleteBefore SpellsPlain NoDot plain_of
+plain_complete front more c end s =
+    let w = plain_is front c s in
+    ap (λ ls. plain_of (ls ++ more)) w.spelled.split
+    ∙ ap plain_of (append_assoc w.spelled.front w.spelled.back more)
+    ∙ with_complete w.spelled.front w.spelled.back more w.atom w.test end w.spelled.is_left w.spelled.is_right
+    ∙ ap (λ tree. Some (tree, more)) (sym w.is)
+
+-- a predicate has a lexeme at least
+plain_nonempty : (front : List Lexeme) (c : Cond) → SpellsPlain front c → 0 < length front
+plain_nonempty front c s =
+    let w = plain_is front c s in
+    omega (arith, ap length w.spelled.split, length-append w.spelled.front w.spelled.back, atom_nonempty w.spelled.front w.atom w.spelled.is_left)
+
+-- neither NOT nor a bracket begins a predicate
+no_plain_not : (left : List Lexeme) → plain_of (Word (codes "not") ∷ left) ≡ None
+unfolding plain_of atom_of reserved_atom_of agg_of after reserved
+no_plain_not left = refl
+
+no_plain_open : (left : List Lexeme) → plain_of (Sign symbol.Open ∷ left) ≡ None
+unfolding plain_of atom_of literal_atom_of literal_of after
+no_plain_open left = refl
+
+-- what begins no predicate does not come first
+not_first : (lexeme : Lexeme) → ((left : List Lexeme) → plain_of (lexeme ∷ left) ≡ None) → (lexemes rest : List Lexeme) (c : Cond) → plain_of lexemes ≡ Some (c, rest) → after lexeme lexemes ≡ None
+not_first lexeme none lexemes rest c e = by_found (after lexeme lexemes) refl where
+  by_found : (found : Option (List Lexeme)) → after lexeme lexemes ≡ found → after lexeme lexemes ≡ None
+  by_found None a = a
+  by_found (Some left) a =
+      let both : ◌≡◌ {A = Option (Cond × List Lexeme)} None (Some (c, rest)) = sym (none left) ∙ ap plain_of (sym (after_is _ lexemes left a)) ∙ e in
+      cc
+
+-- AND and OR
+
+-- the tokens do not go on with AND
+abbrev EndsAnd : List Lexeme → Type 0
+EndsAnd tokens = NoDot tokens × (after (Word (codes "and")) tokens ≡ None)
+
+-- the tokens do not go on with OR
+abbrev pub EndsOr : List Lexeme → Type 0
+EndsOr tokens = EndsAnd tokens × (after (Word (codes "or")) tokens ≡ None)
+
+module _ (form : Form Cond) (neg : List Lexeme → Option (Cond × List Lexeme)) where
+  abbrev SpellsAnd : List Lexeme → Cond → Type 0
+  SpellsAnd tokens c = Joined form (Word (codes "and")) cond.And tokens c
+
+  -- what is read is joined by AND
+  pub and_sound : IsSound form neg → IsSound SpellsAnd (and_of neg)
+  unfolding and_of
+  and_sound sound = joined_sound form neg (Word (codes "and")) cond.And sound
+
+  -- a joined condition has a lexeme at least
+  pub and_nonempty : ((front : List Lexeme) (c : Cond) → form front c → 0 < length front) → (front : List Lexeme) (c : Cond) → SpellsAnd front c → 0 < length front
+  and_nonempty nonempty front c s = elim s [ inl one ↦ nonempty front c one | inr m ↦ separated_nonempty form (Word (codes "and")) nonempty front m.members m.separated ]
+
+  -- what is joined by AND is read
+  and_complete : IsCompleteBefore form NoDot neg → Shrinks neg → IsCompleteBefore SpellsAnd EndsAnd (and_of neg)
+  unfolding and_of after
+  and_complete complete shrinks front more c end s = joined_complete_before form neg (Word (codes "and")) cond.And NoDot refl (λ rest. refl) complete shrinks front more c end.0 end.1 s
+
+module _ (form : Form Cond) (neg : List Lexeme → Option (Cond × List Lexeme)) where
+  -- what is read is joined by OR
+  pub or_sound : IsSound form neg → IsSound (SpellsOr form) (or_of neg)
+  unfolding or_of
+  or_sound sound = joined_sound (SpellsAnd form neg) (and_of neg) (Word (codes "or")) cond.Or (and_sound form neg sound)
+
+  -- it has a lexeme at least
+  pub or_nonempty : ((front : List Lexeme) (c : Cond) → form front c → 0 < length front) → (front : List Lexeme) (c : Cond) → SpellsOr form front c → 0 < length front
+  or_nonempty nonempty front c s = elim s [ inl one ↦ and_nonempty form neg nonempty front c one | inr m ↦ separated_nonempty (SpellsAnd form neg) (Word (codes "or")) (and_nonempty form neg nonempty) front m.members m.separated ]
+
+  -- what is joined by OR is read
+  pub or_complete : IsSound form neg → ((front : List Lexeme) (c : Cond) → form front c → 0 < length front) → IsCompleteBefore form NoDot neg → IsCompleteBefore (SpellsOr form) EndsOr (or_of neg)
+  unfolding or_of after
+  or_complete sound nonempty complete front more c end s =
+      let shrinks : Shrinks neg = sound_shrinks form neg sound nonempty in
+      let and_shrinks : Shrinks (and_of neg) = sound_shrinks (SpellsAnd form neg) (and_of neg) (and_sound form neg sound) (and_nonempty form neg nonempty) in
+      joined_complete_before (SpellsAnd form neg) (and_of neg) (Word (codes "or")) cond.Or EndsAnd refl (λ rest. (refl, refl)) (and_complete form neg complete shrinks) and_shrinks front more c end.0 end.1 s
+
+-- NOT and brackets
+
+-- one more level has a lexeme at least
+neg_nonempty : (depth : ℕ) (front : List Lexeme) (c : Cond) → SpellsNeg depth front c → 0 < length front
+neg_nonempty zero front c s = plain_nonempty front c s
+neg_nonempty (suc depth) front c s = elim s [
+  | inl one ↦ plain_nonempty front c one
+  | inr (inl n) ↦ omega (arith, ap length n.2.prefix)
+  | inr (inr b) ↦ omega (arith, ap length b.brackets)
+]
+
+module _ (depth : ℕ) (lexemes rest : List Lexeme) (c : Cond) where
+  -- behind a bracket
+  bracket_sound : IsSound (SpellsOr (SpellsNeg depth)) (or_of (neg_of depth)) → (left : List Lexeme) → lexemes ≡ Sign symbol.Open ∷ left → open_behind (neg_of depth) (Some left) lexemes ≡ Some (c, rest) → Begins (SpellsNeg (suc depth)) lexemes rest c
+  bracket_sound sound left h e =
+      let a = bind_some (or_of (neg_of depth) left) _ (c, rest) e in
+      let b = bind_some (after (Sign symbol.Close) a.0.1) _ (c, rest) a.2 in
+      let last : b.0 ≡ rest = same_rest b.2 in
+      let s = sound left a.0.1 a.0.0 a.1 in
+      let front = Sign symbol.Open ∷ (s.front ++ Sign symbol.Close ∷ []) in
+      record {
+        front = front;
+        whole = h ∙ ap (λ ls. Sign symbol.Open ∷ ls) (s.whole ∙ ap (λ ls. s.front ++ ls) (after_is _ a.0.1 b.0 b.1 ∙ ap (λ ls. Sign symbol.Close ∷ ls) last) ∙ sym (append_assoc s.front (Sign symbol.Close ∷ []) rest));
+        spelled = subst (SpellsNeg (suc depth) front) (same_tree b.2) (inr (inr (record { inner = s.front; brackets = refl; body = s.spelled })));
+      }
+
+  -- behind NOT
+  not_sound : IsSound (SpellsNeg depth) (neg_of depth) → (left : List Lexeme) → lexemes ≡ Word (codes "not") ∷ left → neg_behind (neg_of depth) (Some left) lexemes ≡ Some (c, rest) → Begins (SpellsNeg (suc depth)) lexemes rest c
+  not_sound sound left h e =
+      let a = bind_some (neg_of depth left) _ (c, rest) e in
+      let s = sound left a.0.1 a.0.0 a.1 in
+      let front = Word (codes "not") ∷ s.front in
+      record {
+        front = front;
+        whole = h ∙ ap (λ ls. Word (codes "not") ∷ ls) (s.whole ∙ ap (λ ls. s.front ++ ls) (same_rest a.2));
+        spelled = subst (SpellsNeg (suc depth) front) (same_tree a.2) (inr (inl (a.0.0, refl, record { inner = s.front; prefix = refl; body = s.spelled })));
+      }
+
+  -- a predicate
+  plain_neg : plain_of lexemes ≡ Some (c, rest) → Begins (SpellsNeg (suc depth)) lexemes rest c
+  plain_neg e = let s = plain_sound lexemes rest c e in record { front = s.front; whole = s.whole; spelled = inl s.spelled }
+
+-- what is read is spelled so
+pub neg_sound : (depth : ℕ) → IsSound (SpellsNeg depth) (neg_of depth)
+unfolding neg_of
+neg_sound zero lexemes rest c e = plain_sound lexemes rest c e
+neg_sound (suc depth) lexemes rest c e = by_not (neg_sound depth) (after (Word (codes "not")) lexemes) refl e where
+  by_open : IsSound (SpellsNeg depth) (neg_of depth) → (found : Option (List Lexeme)) → after (Sign symbol.Open) lexemes ≡ found → open_behind (neg_of depth) found lexemes ≡ Some (c, rest) → Begins (SpellsNeg (suc depth)) lexemes rest c
+  by_open sound None a e = plain_neg depth lexemes rest c e
+  by_open sound (Some left) a e = bracket_sound depth lexemes rest c (or_sound (SpellsNeg depth) (neg_of depth) sound) left (after_is _ lexemes left a) e
+
+  by_not : IsSound (SpellsNeg depth) (neg_of depth) → (found : Option (List Lexeme)) → after (Word (codes "not")) lexemes ≡ found → neg_behind (neg_of depth) found lexemes ≡ Some (c, rest) → Begins (SpellsNeg (suc depth)) lexemes rest c
+  by_not sound None a e = by_open sound (after (Sign symbol.Open) lexemes) refl e
+  by_not sound (Some left) a e = not_sound depth lexemes rest c sound left (after_is _ lexemes left a) e
+
+-- and so takes a lexeme at least
+pub neg_shrinks : (depth : ℕ) → Shrinks (neg_of depth)
+neg_shrinks depth = sound_shrinks (SpellsNeg depth) (neg_of depth) (neg_sound depth) (neg_nonempty depth)
+
+-- and so does what is joined by AND
+pub and_shrinks : (depth : ℕ) → Shrinks (and_of (neg_of depth))
+and_shrinks depth = sound_shrinks (SpellsAnd (SpellsNeg depth) (neg_of depth)) (and_of (neg_of depth)) (and_sound (SpellsNeg depth) (neg_of depth) (neg_sound depth)) (and_nonempty (SpellsNeg depth) (neg_of depth) (neg_nonempty depth))
+
+-- a predicate is read one level up
+plain_up : (depth : ℕ) (lexemes more : List Lexeme) (c : Cond) → plain_of lexemes ≡ Some (c, more) → neg_of (suc depth) lexemes ≡ Some (c, more)
+unfolding neg_of
+plain_up depth lexemes more c read =
+    ap (λ found. neg_behind (neg_of depth) found lexemes) (not_first (Word (codes "not")) no_plain_not lexemes more c read)
+    ∙ ap (λ found. open_behind (neg_of depth) found lexemes) (not_first (Sign symbol.Open) no_plain_open lexemes more c read)
+    ∙ read
+
+-- a NOT is read
+not_up : (depth : ℕ) (inner more : List Lexeme) (c : Cond) → neg_of depth (inner ++ more) ≡ Some (c, more) → neg_of (suc depth) (Word (codes "not") ∷ (inner ++ more)) ≡ Some (cond.Not c, more)
+unfolding neg_of after
+not_up depth inner more c read = ap (option_and_then (λ (found : Cond × List Lexeme). Some (cond.Not found.0, found.1))) read
+
+-- brackets are read
+bracket_up : (depth : ℕ) (inner more : List Lexeme) (c : Cond) → or_of (neg_of depth) (inner ++ Sign symbol.Close ∷ more) ≡ Some (c, Sign symbol.Close ∷ more) → neg_of (suc depth) (Sign symbol.Open ∷ (inner ++ Sign symbol.Close ∷ more)) ≡ Some (c, more)
+unfolding neg_of after
+bracket_up depth inner more c read = ap (option_and_then (λ (found : Cond × List Lexeme). option_and_then (λ close. Some (found.0, close)) (after (Sign symbol.Close) found.1))) read
+
+-- before a bracket that closes a condition ends
+ends_before_close : (rest : List Lexeme) → EndsOr (Sign symbol.Close ∷ rest)
+unfolding after
+ends_before_close rest = ((refl, refl), refl)
+
+-- what is spelled so is read, where no dot follows
+pub neg_complete : (depth : ℕ) → IsCompleteBefore (SpellsNeg depth) NoDot (neg_of depth)
+unfolding neg_of
+neg_complete zero front more c end s = plain_complete front more c end s
+neg_complete (suc depth) front more c end s = elim s [
+  | inl one ↦ plain_up depth (front ++ more) more c (plain_complete front more c end one)
+  | inr (inl n) ↦
+      ap (λ ls. neg_of (suc depth) (ls ++ more)) n.2.prefix
+      ∙ not_up depth n.2.inner more n.0 (neg_complete depth n.2.inner more n.0 end n.2.body)
+      ∙ ap (λ tree. Some (tree, more)) (sym n.1)
+  | inr (inr b) ↦
+      let all : front ++ more ≡ Sign symbol.Open ∷ (b.inner ++ Sign symbol.Close ∷ more) =
+      ap (λ ls. ls ++ more) b.brackets ∙ ap (λ ls. Sign symbol.Open ∷ ls) (append_assoc b.inner (Sign symbol.Close ∷ []) more) in
+      let read = or_complete (SpellsNeg depth) (neg_of depth) (neg_sound depth) (neg_nonempty depth) (neg_complete depth) b.inner (Sign symbol.Close ∷ more) c (ends_before_close more) b.body in
+      ap (neg_of (suc depth)) all ∙ bracket_up depth b.inner more c read
+]
+
+-- conditions
+
+-- what is read is a condition
+pub cond_sound : IsSound SpellsCond cond_of
+unfolding SpellsCond cond_of
+cond_sound = or_sound (SpellsNeg 64) (neg_of 64) (neg_sound 64)
+
+-- a condition is read
+pub cond_complete : IsCompleteBefore SpellsCond EndsOr cond_of
+unfolding SpellsCond cond_of
+cond_complete = or_complete (SpellsNeg 64) (neg_of 64) (neg_sound 64) (neg_nonempty 64) (neg_complete 64)
+
+-- a condition has a lexeme at least
+pub cond_nonempty : (front : List Lexeme) (c : Cond) → SpellsCond front c → 0 < length front
+unfolding SpellsCond
+cond_nonempty = or_nonempty (SpellsNeg 64) (neg_of 64) (neg_nonempty 64)
+
+-- and so takes one
+pub cond_shrinks : Shrinks cond_of
+cond_shrinks = sound_shrinks SpellsCond cond_of cond_sound cond_nonempty

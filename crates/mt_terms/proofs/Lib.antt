@@ -1,0 +1,9 @@
+pub mod Atoms
+pub mod Conditions
+pub mod Expressions
+pub mod Follow
+pub mod Inside
+pub mod Levels
+pub mod Predicates
+pub mod Steps
+pub mod Tails

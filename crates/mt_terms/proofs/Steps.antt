@@ -1,0 +1,85 @@
+-- One step of a reader of expressions.
+use Rattle.std.proofs.Common.{◌≡◌, ℕ, zero, suc, ◌-◌, ◌<◌, Option, Some, None, List, refl, ap, ◌∙◌, arith}
+use Rattle.std.specs.List.{All}
+use Rattle.std.specs.Option.{option_and_then, option_map}
+use Rattle.mt_lexer.specs.declared.token.Symbol.TheVariants as symbol
+use Rattle.mt_lexer.specs.Tokens.{Lexeme, Sign}
+use Rattle.mt_tree.specs.declared.expression.Expr.{Expr}
+use Rattle.mt_tree.specs.declared.expression.Expr.TheVariants as expr
+use Rattle.mt_tree.specs.declared.expression.Term.{Term}
+use Rattle.mt_reader.specs.declared.fault.ReadFault.{ReadFault}
+use Rattle.mt_reader.specs.Descent.{after, separated_of, joined_tree}
+use Rattle.mt_reader.specs.Taken.{Took, Fails}
+use Rattle.mt_reader.proofs.Joining.{joined_took, joined_fails}
+use Rattle.mt_reader.proofs.Literals.{fails_bind}
+use Rattle.mt_terms.specs.Descent.{alone_of, term_of, terms_of, sum_tree, sum_of, factor_behind, factor_of}
+use Rattle.mt_terms.specs.Inside.{IsExprInside, IsTermInside}
+use Rattle.mt_terms.proofs.Inside.{keeps_sum, keeps_product}
+
+-- what reads behind a sum in brackets
+abbrev bracket_behind : Expr × List Lexeme → Option (Expr × List Lexeme)
+bracket_behind inner = option_and_then (λ close. Some (inner.0, close)) (after (Sign symbol.Close) inner.1)
+
+module _ (factor : List Lexeme → Option (Expr × List Lexeme)) (lexemes : List Lexeme) where
+  -- factors are taken, and so a product
+  pub product_took : (kept : Option (List Expr)) (left : List Lexeme) → Took (All IsExprInside) kept left (separated_of factor (Sign symbol.Star) lexemes) → Took IsExprInside (option_map (joined_tree expr.Product) kept) left (term_of factor lexemes)
+  unfolding term_of
+  product_took = joined_took factor (Sign symbol.Star) expr.Product IsExprInside lexemes keeps_product
+
+  -- why factors fail is why a product does
+  pub product_fails : (e : ReadFault) → Fails e (separated_of factor (Sign symbol.Star) lexemes) → Fails e (term_of factor lexemes)
+  unfolding term_of
+  product_fails = joined_fails factor (Sign symbol.Star) expr.Product IsExprInside lexemes
+
+  -- terms are taken, and so a sum
+  pub sum_took : (kept : Option (List Term)) (left : List Lexeme) → Took (All IsTermInside) kept left (terms_of (term_of factor) lexemes) → Took IsExprInside (option_map sum_tree kept) left (sum_of factor lexemes)
+  unfolding sum_of
+  sum_took kept left t = record {
+    tree = sum_tree t.tree;
+    reads = ap (option_and_then (λ (terms : List Term × List Lexeme). Some (sum_tree terms.0, terms.1))) t.reads;
+    keeps = keeps_sum kept t.tree t.keeps;
+  }
+
+  -- why terms fail is why a sum does
+  pub sum_fails : (e : ReadFault) → Fails e (terms_of (term_of factor) lexemes) → Fails e (sum_of factor lexemes)
+  unfolding sum_of
+  sum_fails e f = fails_bind e (terms_of (term_of factor) lexemes) _ f
+
+-- depths
+
+-- with no bracket left a factor is an atom
+pub factor_of-none : (depth : ℕ) (lexemes : List Lexeme) → depth ≡ 0 → factor_of depth lexemes ≡ alone_of lexemes
+unfolding factor_of
+factor_of-none zero lexemes h = refl
+factor_of-none (suc depth) lexemes h = absurd (omega arith)
+
+-- a bracket takes one of the depth
+pub factor_of-some : (depth : ℕ) (lexemes : List Lexeme) → 0 < depth → factor_of depth lexemes ≡ factor_behind (sum_of (factor_of (depth - 1))) (after (Sign symbol.Open) lexemes) lexemes
+unfolding factor_of
+factor_of-some zero lexemes h = absurd (omega arith)
+factor_of-some (suc depth) lexemes h = let same : depth ≡ suc depth - 1 = omega arith in ap (λ d. factor_behind (sum_of (factor_of d)) (after (Sign symbol.Open) lexemes) lexemes) same
+
+-- where no bracket opens a factor is an atom
+pub factor_of-atom : (depth : ℕ) (lexemes : List Lexeme) → (depth ≡ 0 → ⊥) → after (Sign symbol.Open) lexemes ≡ None → factor_of depth lexemes ≡ alone_of lexemes
+factor_of-atom depth lexemes h a = factor_of-some depth lexemes (omega arith) ∙ ap (λ found. factor_behind (sum_of (factor_of (depth - 1))) found lexemes) a
+
+-- where a bracket opens a factor is a sum in brackets
+factor_of-open : (depth : ℕ) (lexemes mid : List Lexeme) → (depth ≡ 0 → ⊥) → after (Sign symbol.Open) lexemes ≡ Some mid → factor_of depth lexemes ≡ option_and_then bracket_behind (sum_of (factor_of (depth - 1)) mid)
+factor_of-open depth lexemes mid h a = factor_of-some depth lexemes (omega arith) ∙ ap (λ found. factor_behind (sum_of (factor_of (depth - 1))) found lexemes) a
+
+-- why the sum in brackets fails
+pub factor_inner_fails : (depth : ℕ) (lexemes mid : List Lexeme) (e : ReadFault) → (depth ≡ 0 → ⊥) → after (Sign symbol.Open) lexemes ≡ Some mid → Fails e (sum_of (factor_of (depth - 1)) mid) → Fails e (factor_of depth lexemes)
+factor_inner_fails depth lexemes mid e h a f = rw (factor_of-open depth lexemes mid h a) (fails_bind e (sum_of (factor_of (depth - 1)) mid) bracket_behind f)
+
+-- why the bracket that closes fails
+pub factor_close_fails : (depth : ℕ) (lexemes mid left : List Lexeme) (tree : Expr) (e : ReadFault) → (depth ≡ 0 → ⊥) → after (Sign symbol.Open) lexemes ≡ Some mid → sum_of (factor_of (depth - 1)) mid ≡ Some (tree, left) → Fails e (after (Sign symbol.Close) left) → Fails e (factor_of depth lexemes)
+factor_close_fails depth lexemes mid left tree e h a r f =
+    rw (factor_of-open depth lexemes mid h a, r) (fails_bind e (after (Sign symbol.Close) left) (λ close. Some (tree, close)) f)
+
+-- a sum in brackets is taken
+pub factor_took : (depth : ℕ) (lexemes mid left rest : List Lexeme) (kept : Option Expr) → (depth ≡ 0 → ⊥) → after (Sign symbol.Open) lexemes ≡ Some mid → Took IsExprInside kept left (sum_of (factor_of (depth - 1)) mid) → after (Sign symbol.Close) left ≡ Some rest → Took IsExprInside kept rest (factor_of depth lexemes)
+factor_took depth lexemes mid left rest kept h a t c = record {
+  tree = t.tree;
+  reads = factor_of-open depth lexemes mid h a ∙ ap (option_and_then bracket_behind) t.reads ∙ ap (option_and_then (λ close. Some (t.tree, close))) c;
+  keeps = t.keeps;
+}

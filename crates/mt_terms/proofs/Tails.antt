@@ -1,0 +1,101 @@
+-- The members of a sum, as far as a loop has read.
+use Rattle.std.proofs.Common.{◌≡◌, ℕ, zero, suc, ◌<◌, ◌≤◌, Bool, false, Option, Some, None, List, [], ◌∷◌, ◌++◌, length, refl, sym, ap, ◌∙◌, append-nil, arith}
+use Rattle.std.proofs.lemmas.List.Elements.{All-nil}
+use Rattle.std.specs.List.{All}
+use Rattle.std.specs.Option.{option_and_then}
+use Rattle.mt_lexer.specs.declared.token.Symbol.TheVariants as symbol
+use Rattle.mt_lexer.specs.Tokens.{Lexeme, Sign}
+use Rattle.mt_tree.specs.declared.expression.Expr.{Expr}
+use Rattle.mt_tree.specs.declared.expression.Term.{Term}
+use Rattle.mt_reader.specs.declared.fault.ReadFault.{ReadFault}
+use Rattle.mt_reader.specs.declared.fault.ReadFault.TheVariants as fault
+use Rattle.mt_reader.specs.Descent.{after, with_front, pushed}
+use Rattle.mt_reader.specs.Taken.{Keeps, Took, Fails}
+use Rattle.mt_reader.specs.Shrinking.{same_tree, same_rest}
+use Rattle.mt_reader.proofs.Lists.{keeps_pushed, with_front-append}
+use Rattle.mt_reader.proofs.Literals.{fails_bind}
+use Rattle.mt_reader.proofs.Spelling.{after_is}
+use Rattle.mt_terms.specs.Expression.{sign_of as sign_lexeme}
+use Rattle.mt_terms.specs.Descent.{sign_of, sign_behind, tail_of, tail_behind, terms_of}
+
+-- The members so far, and those that are left, are all; and this is kept of those so far.
+pub record TermsSoFar (term : List Lexeme → Option (Expr × List Lexeme)) (inside : Term → Type 0) (all : Option (List Term × List Lexeme)) (left : List Lexeme) (terms : Option (List Term)) : Type 0 where
+  pub front : List Term
+  pub fuel : ℕ
+  pub enough : length left ≤ fuel
+  pub same : with_front front (tail_of term fuel left) ≡ all
+  pub keeps : Keeps (All inside) terms front
+
+-- a sign is one lexeme
+pub sign_is : (lexemes rest : List Lexeme) (minus : Bool) → sign_of lexemes ≡ Some (minus, rest) → lexemes ≡ sign_lexeme minus ∷ rest
+unfolding sign_of
+sign_is lexemes rest minus e = by_sign (after (Sign symbol.Plus) lexemes) (after (Sign symbol.Minus) lexemes) refl refl e where
+  by_sign : (plus less : Option (List Lexeme)) → after (Sign symbol.Plus) lexemes ≡ plus → after (Sign symbol.Minus) lexemes ≡ less → sign_behind plus less ≡ Some (minus, rest) → lexemes ≡ sign_lexeme minus ∷ rest
+  by_sign (Some left) less a b e = after_is _ lexemes left a ∙ ap (λ ls. Sign symbol.Plus ∷ ls) (same_rest e) ∙ ap (λ m. sign_lexeme m ∷ rest) (same_tree e)
+  by_sign None (Some left) a b e = after_is _ lexemes left b ∙ ap (λ ls. Sign symbol.Minus ∷ ls) (same_rest e) ∙ ap (λ m. sign_lexeme m ∷ rest) (same_tree e)
+  by_sign None None a b e = cc
+
+module _ (term : List Lexeme → Option (Expr × List Lexeme)) where
+  -- one more member, where there is fuel
+  pub tail_of-sign : (fuel : ℕ) (left mid rest : List Lexeme) (minus : Bool) (e : Expr) → sign_of left ≡ Some (minus, mid) → term mid ≡ Some (e, rest) → tail_of term (suc fuel) left ≡ with_front (record { minus = minus; expr = e } ∷ []) (tail_of term fuel rest)
+  tail_of-sign fuel left mid rest minus e s t =
+      ap (λ sign. tail_behind term (tail_of term fuel) sign left) s
+      ∙ ap (option_and_then (λ (found : Expr × List Lexeme). with_front (record { minus = minus; expr = found.0 } ∷ []) (tail_of term fuel found.1))) t
+
+  -- no more members
+  pub tail_of-end : (fuel : ℕ) (left : List Lexeme) → sign_of left ≡ None → tail_of term fuel left ≡ Some ([], left)
+  tail_of-end zero left s = refl
+  tail_of-end (suc fuel) left s = ap (λ sign. tail_behind term (tail_of term fuel) sign left) s
+
+  module _ (inside : Term → Type 0) where
+    -- behind the first member
+    pub terms_so_far_first : (lexemes mid : List Lexeme) (kept : Option Term) (e : Expr) → term lexemes ≡ Some (e, mid) → Keeps inside kept (record { minus = false; expr = e }) → TermsSoFar term inside (terms_of term lexemes) mid (pushed (Some []) kept)
+    unfolding terms_of
+    terms_so_far_first lexemes mid kept e t k = record {
+      front = record { minus = false; expr = e } ∷ [];
+      fuel = length mid;
+      enough = omega arith;
+      same = sym (ap (option_and_then (λ (first : Expr × List Lexeme). with_front (record { minus = false; expr = first.0 } ∷ []) (tail_of term (length first.1) first.1))) t);
+      keeps = keeps_pushed inside (Some []) kept [] (record { minus = false; expr = e }) (refl, All-nil inside) k;
+    }
+
+    -- why the first member fails is why all do
+    pub terms_first_fault : (lexemes : List Lexeme) (e : ReadFault) → Fails e (term lexemes) → Fails e (terms_of term lexemes)
+    unfolding terms_of
+    terms_first_fault lexemes e f = fails_bind e (term lexemes) _ f
+
+    module _ (all : Option (List Term × List Lexeme)) (left : List Lexeme) (terms : Option (List Term)) (s : TermsSoFar term inside all left terms) where
+      -- a sign, and so one more member
+      pub terms_so_far_more : (mid rest : List Lexeme) (minus : Bool) (kept : Option Term) (e : Expr) → sign_of left ≡ Some (minus, mid) → term mid ≡ Some (e, rest) → length rest < length mid → Keeps inside kept (record { minus = minus; expr = e }) → TermsSoFar term inside all rest (pushed terms kept)
+      terms_so_far_more mid rest minus kept e sign t shorter k = step s.fuel s.enough s.same where
+        one : Term
+        one = record { minus = minus; expr = e }
+
+        step : (fuel : ℕ) → length left ≤ fuel → with_front s.front (tail_of term fuel left) ≡ all → TermsSoFar term inside all rest (pushed terms kept)
+        step zero enough same = absurd (omega (arith, ap length (sign_is left mid minus sign)))
+        step (suc fuel) enough same = record {
+          front = s.front ++ one ∷ [];
+          fuel = fuel;
+          enough = omega (arith, ap length (sign_is left mid minus sign));
+          same = sym (with_front-append s.front (one ∷ []) (tail_of term fuel rest)) ∙ ap (with_front s.front) (sym (tail_of-sign fuel left mid rest minus e sign t)) ∙ same;
+          keeps = keeps_pushed inside terms kept s.front one s.keeps k;
+        }
+
+      -- no sign, and so all members
+      pub terms_so_far_all : sign_of left ≡ None → Took (All inside) terms left all
+      terms_so_far_all sign = record {
+        tree = s.front;
+        reads = sym s.same ∙ ap (with_front s.front) (tail_of-end s.fuel left sign) ∙ ap (λ ts. Some (ts, left)) (append-nil s.front);
+        keeps = s.keeps;
+      }
+
+      -- why a member fails is why all of them do
+      pub terms_so_far_fault : (mid : List Lexeme) (minus : Bool) (e : ReadFault) → sign_of left ≡ Some (minus, mid) → Fails e (term mid) → Fails e all
+      terms_so_far_fault mid minus fault.Memory sign f = tt
+      terms_so_far_fault mid minus fault.Unread sign f = step s.fuel s.enough s.same where
+        step : (fuel : ℕ) → length left ≤ fuel → with_front s.front (tail_of term fuel left) ≡ all → all ≡ None
+        step zero enough same = absurd (omega (arith, ap length (sign_is left mid minus sign)))
+        step (suc fuel) enough same =
+            sym same
+            ∙ ap (λ sign. with_front s.front (tail_behind term (tail_of term fuel) sign left)) sign
+            ∙ ap (λ found. with_front s.front (option_and_then (λ (found : Expr × List Lexeme). with_front (record { minus = minus; expr = found.0 } ∷ []) (tail_of term fuel found.1)) found)) f

@@ -1,0 +1,6 @@
+pub mod Condition
+pub mod Descent
+pub mod Expression
+pub mod Follow
+pub mod Inside
+pub mod Shrinking
