@@ -3,7 +3,7 @@ use Rattle.std.specs.Prelude.{◌≡◌, ◌⊎◌, ◌≤◌, ℕ, List, [], ma
 use Rattle.std.specs.FinMap as finite
 use Rattle.mt_tree.specs.declared.simple.SimpleCmd.TheVariants.{CreateTenant}
 use Rattle.mt_tree.specs.declared.reply.Reply.{Reply}
-use Rattle.mt_grammar.specs.Reading.{Says}
+use Rattle.mt_model.specs.Said.{Says}
 use Rattle.mt_model.specs.Command.{new_database}
 use Rattle.mt_model.specs.declared.database.PrivateDatabase.{PrivateDatabase}
 use Rattle.mt_model.specs.FirstPath.{first_path_step}

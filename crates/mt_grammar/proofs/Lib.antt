@@ -1,3 +1,3 @@
+pub mod Insides
+pub mod Printed
 pub mod Statements
-pub mod Texts
-pub mod Decided

@@ -1,15 +1,15 @@
-//! The reading of statements and commands, of those forms that are served so far. It promises that a
-//! text is read exactly where it has a form, and then as its one tree; that a number outside 64 bits
-//! is told apart; and that a text has at most one reading.
+//! A tenant's statements, both ways. It promises that a text is read exactly where it has a reading,
+//! and then as its one tree; that a number outside 64 bits is told apart; that a text has at most one
+//! reading; and that what is printed of a statement reads as the same tree.
 #![tactic(auto)]
 
-mod command;
 mod laws;
-mod simple;
+mod printing;
 mod statement;
 
-pub use laws::{each_text_says_something, simple_readings_are_determined};
-pub use simple::{SimpleFault, simple_command, simple_statement};
+pub use laws::{each_statement_text_gives_something, statements_are_determined};
+pub use printing::show;
+pub use statement::parse;
 
 #[cfg(test)]
 mod tests;

@@ -7,3 +7,4 @@ pub mod Determined
 pub mod Examples
 pub mod Lowered
 pub mod Decided
+pub mod LowerWords

@@ -1,9 +1,9 @@
 -- What the bytes from a place on begin with.
-use Rattle.std.specs.Prelude.{ℕ, ◌≤◌, ◌==◌, if◌then◌else◌, Option, Some, None, List, length, take, drop}
-use Rattle.std.specs.List.{AllPass}
+use Rattle.std.specs.Prelude.{ℕ, ◌≤◌, ◌==◌, nat_le, Bool, false, not, ◌&&◌, if◌then◌else◌, Option, Some, None, List, [], ◌∷◌, length, take, drop}
+use Rattle.std.specs.List.{AllPass, list_all, list_any}
 use Rattle.mt_lexer.specs.declared.token.Symbol.{Symbol}
 use Rattle.mt_lexer.specs.declared.token.Symbol.TheVariants as symbol
-use Rattle.mt_lexer.specs.Tokens.{Lexeme, Spells, EndsBefore, BeginsNoWith, is_in_word}
+use Rattle.mt_lexer.specs.Tokens.{Lexeme, Spells, EndsBefore, BeginsNoWith, begins_word, is_in_word, is_upper}
 
 -- The first n bytes spell this, and it ends there.
 pub record Reads (rest : List ℕ) (n : ℕ) (lexeme : Lexeme) : Type 0 where
@@ -31,3 +31,8 @@ symbol_of first next =
     if first == 59 then Some symbol.Semicolon else (
     if first == 60 then (if next == 62 then Some symbol.NotEqual else (if next == 61 then Some symbol.LessEqual else Some symbol.Less)) else (
     if first == 62 then (if next == 61 then Some symbol.GreaterEqual else Some symbol.Greater) else None))))))))))
+
+-- the tests of a word in lower case
+abbrev pub passes_as_lower_word : List ℕ → Bool
+passes_as_lower_word [] = false
+passes_as_lower_word (b ∷ bs) = begins_word b && (nat_le (length (b ∷ bs)) 30 && (list_all is_in_word bs && not (list_any is_upper (b ∷ bs))))

@@ -7,19 +7,19 @@ ghost use Rattle.mt_lexer.specs.Reads.{IsWordRun, Reads, symbol_of};
 use crate::{Symbol, TokenKind};
 
 /// The longest word, in bytes.
-const WORD_LIMIT: usize = 30;
+pub(crate) const WORD_LIMIT: usize = 30;
 
 const QUOTE: u8 = b'\'';
 
 /// Whether a word may begin with this byte.
-fn begins_word(byte: u8) -> bool
+pub(crate) fn begins_word(byte: u8) -> bool
     ensures { result ≡ begins_word byte }
 {
     byte.is_ascii_alphabetic() || byte == b'_'
 }
 
 /// Whether this byte may stand in a word.
-fn is_in_word(byte: u8) -> bool
+pub(crate) fn is_in_word(byte: u8) -> bool
     ensures { result ≡ is_in_word byte }
 {
     begins_word(byte) || byte.is_ascii_digit()

@@ -1,4 +1,6 @@
-use crate::{LexFault, Symbol, TokenKind, is_word, tokens, tokens_are_determined};
+use crate::{
+    LexFault, Symbol, TokenKind, is_lower_word, is_reserved, is_word, tokens, tokens_are_determined,
+};
 use std::test::Fail;
 
 const WORD: TokenKind = TokenKind::Word;
@@ -109,4 +111,33 @@ fn compares_words(rt: HostRuntime) -> Result<(), Fail> {
         assert_eq!(rt; is_word(text, &token, "SELECT"), i == 0);
     }
     Ok(())
+}
+
+#[test]
+fn knows_reserved_words(rt: HostRuntime) {
+    for word in ["and", "SELECT", "Values", "wHERE"] {
+        assert!(rt; is_reserved(word.as_bytes()), "{word} is reserved");
+    }
+    for word in ["", "an", "create", "table", "tenant", "quota", "selects"] {
+        assert!(rt; !is_reserved(word.as_bytes()), "{word} is a name");
+    }
+}
+
+#[test]
+fn knows_words_in_lower_case(rt: HostRuntime) {
+    for word in ["a", "_", "a1_", "select", "a23456789_a23456789_a23456789_"] {
+        assert!(rt; is_lower_word(word.as_bytes()), "{word} is one");
+    }
+    for word in [
+        "",
+        "1a",
+        "A",
+        "aB",
+        "a-b",
+        "a ",
+        "ä",
+        "a23456789_a23456789_a23456789_1",
+    ] {
+        assert!(rt; !is_lower_word(word.as_bytes()), "{word} is none");
+    }
 }

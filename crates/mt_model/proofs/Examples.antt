@@ -1,9 +1,9 @@
 -- Worked examples of the definitions: what a few lines say, do and are answered.
-use Rattle.std.proofs.Common.{◌≡◌, ℕ, List, [], ◌∷◌, map, length, sum_by, true, Some, None, refl, sym, ap, ◌∙◌, pos, negsuc, codes}
+use Rattle.std.proofs.Common.{◌≡◌, ℕ, List, [], ◌∷◌, map, length, sum_by, Option, true, false, Some, None, refl, sym, ap, ◌∙◌, pos, negsuc, codes}
 use Rattle.std.specs.Fmt.{digits}
 use Rattle.std.specs.FinMap as finite
 use Rattle.std.specs.Ordering.{nat_cmp}
-use Rattle.mt_tree.specs.declared.code.Code.TheVariants.{UnknownTenant, NotServed, NumberOutside64Bits, UnknownTable, UnknownColumn, TypesDoNotFit, TextTooLong, QuotaFull, NameExists, ColumnNameTaken, Limit, QuotasTooLarge}
+use Rattle.mt_tree.specs.declared.code.Code.TheVariants.{UnknownTenant, Syntax, NotServed, NumberOutside64Bits, UnknownTable, UnknownColumn, TypesDoNotFit, TextTooLong, QuotaFull, NameExists, ColumnNameTaken, Limit, QuotasTooLarge}
 use Rattle.mt_tree.specs.declared.simple.SimpleCmd.TheVariants.{CreateTable, CreateTenant}
 use Rattle.mt_tree.specs.declared.simple.SimpleDef.{SimpleDef}
 use Rattle.mt_tree.specs.declared.command.DefKind.TheVariants as def
@@ -12,11 +12,17 @@ use Rattle.mt_tree.specs.declared.reply.Reply.TheVariants.{Text, Refused, Memory
 use Rattle.mt_tree.specs.declared.schema.Table.{Table}
 use Rattle.mt_tree.specs.declared.expression.Literal.{Literal}
 use Rattle.mt_tree.specs.declared.expression.Literal.TheVariants as literal
+use Rattle.mt_tree.specs.declared.expression.Atom.TheVariants as atom
+use Rattle.mt_tree.specs.declared.expression.Expr.TheVariants as expr
+use Rattle.mt_tree.specs.declared.statement.Stmt.{Stmt}
+use Rattle.mt_tree.specs.declared.statement.Stmt.TheVariants as stmt
+use Rattle.mt_tree.specs.declared.command.AdminCmd.TheVariants as command
 use Rattle.mt_tree.specs.declared.simple.SimpleStmt.{SimpleStmt}
 use Rattle.mt_tree.specs.declared.simple.SimpleStmt.TheVariants.{Insert, Select}
 use Rattle.mt_script.specs.Lines as lines
 use Rattle.mt_script.specs.Lines.{cut, without_return, lines_of, ended_lines_of}
-use Rattle.mt_grammar.specs.Reading.{Said, Unserved, Outside, Says}
+use Rattle.mt_model.specs.Said.{Said, Unread, Outside, Unserved, Says}
+use Rattle.mt_model.specs.Served.{served_statement, served_command}
 use Rattle.mt_model.specs.Answer.{answer, next_view}
 use Rattle.mt_model.specs.Command.{table_of_defs, new_database, command_refusal, applied, applied_view}
 use Rattle.mt_model.specs.Database.{PrivateDatabase, no_rows, with_table_in_each}
@@ -213,7 +219,10 @@ select-table = refl
 select-column : answer with_seven (Says (Select (codes "t") (codes "a" ∷ codes "c" ∷ []))) ≡ Refused UnknownColumn
 select-column = refl
 
--- a line that says nothing that is served, or a number outside 64 bits
+-- a text without a reading, one with a reading that is not served, and a number outside 64 bits
+unread-answer : answer with_seven Unread ≡ Refused Syntax
+unread-answer = refl
+
 unserved-answer : answer with_seven Unserved ≡ Refused NotServed
 unserved-answer = refl
 
@@ -272,3 +281,36 @@ private_replies-second = refl
 with_table_in_each-saved : with_table_in_each (record { quota = 1; current = no_rows ∷ []; saved = Some (record { content = []; changed = true }) })
     ≡ record { quota = 1; current = no_rows ∷ no_rows ∷ []; saved = Some (record { content = no_rows ∷ []; changed = true }) }
 with_table_in_each-saved = refl
+
+-- what is served of the trees: one tuple without names of columns
+served-insert : served_statement (stmt.Insert (record { table = codes "t"; columns = []; tuples = (literal.Null ∷ []) ∷ [] })) ≡ Some (Insert (codes "t") (literal.Null ∷ []))
+served-insert = refl
+
+served-insert-columns : served_statement (stmt.Insert (record { table = codes "t"; columns = codes "a" ∷ []; tuples = (literal.Null ∷ []) ∷ [] })) ≡ None
+served-insert-columns = refl
+
+-- a SELECT of a column by its name alone, or of a star
+abbrev select_with_limit : Option ℕ → Stmt
+select_with_limit limit = stmt.Select (record {
+  distinct = false;
+  items = record { expr = expr.Atom (atom.Column (record { qualifier = None; name = codes "a" })); name = None } ∷ [];
+  refs = record { table = codes "t"; alias = None; on = None } ∷ [];
+  cond = None;
+  group = [];
+  having = None;
+  order = [];
+  limit = limit;
+})
+
+served-select : served_statement (select_with_limit None) ≡ Some (Select (codes "t") (codes "a" ∷ []))
+served-select = refl
+
+served-select-limit : served_statement (select_with_limit (Some 1)) ≡ None
+served-select-limit = refl
+
+-- a table without NOT NULL and without a key
+served-table : served_command (command.CreateTable (codes "t") (record { name = codes "a"; kind = def.Integer; not_null = false } ∷ []) []) ≡ Some (CreateTable (codes "t") (record { name = codes "a"; kind = def.Integer } ∷ []))
+served-table = refl
+
+served-table-not_null : served_command (command.CreateTable (codes "t") (record { name = codes "a"; kind = def.Integer; not_null = true } ∷ []) []) ≡ None
+served-table-not_null = refl

@@ -1,12 +1,19 @@
--- A line says one thing, where a text reads as one statement and as one command at most.
-use Rattle.std.proofs.Common.{◌≡◌, ℕ, List, refl, ap, subst}
+-- A line says one thing, where a text reads as one statement and as one command at most; and each
+-- text says something.
+use Rattle.std.proofs.Common.{◌≡◌, ℕ, Option, Some, None, Result, Ok, Err, List, refl, sym, ap, ◌∙◌, subst}
 use Rattle.mt_tree.specs.declared.who.Who.{Who}
 use Rattle.mt_tree.specs.declared.who.Who.TheVariants.{Admin, Tenant}
 use Rattle.mt_script.specs.Lines as lines
 use Rattle.mt_script.specs.Lines.{Line}
-use Rattle.mt_grammar.specs.Forms.{Form}
-use Rattle.mt_grammar.specs.Reading.{Reads, IsSaid, Said, Unserved, Outside, Says}
-use Rattle.mt_grammar.specs.Simple.{SpellsStatement, IsInside, SpellsCommand, IsCommandInside}
+use Rattle.mt_reader.specs.declared.parse.ParseFault.{ParseFault}
+use Rattle.mt_reader.specs.declared.parse.ParseFault.TheVariants as fault
+use Rattle.mt_reader.specs.Forms.{Form}
+use Rattle.mt_reader.specs.Reading.{Reads, Gives}
+use Rattle.mt_grammar.specs.Statement.{SpellsStmt, IsStmtInside}
+use Rattle.mt_adminlang.specs.Command.{SpellsCommand}
+use Rattle.mt_adminlang.specs.Inside.{IsCommandInside}
+use Rattle.mt_model.specs.Served.{served_statement, served_command}
+use Rattle.mt_model.specs.Said.{Said, Unread, Outside, Unserved, Says, IsSaid, IsStatementSaid, IsCommandSaid}
 use Rattle.mt_model.specs.Request.{Request, LineTooLong, Unreadable, Statement, Command, IsSent, IsRequest}
 use Rattle.mt_script.specs.TagLaws.{HasTag-determined}
 
@@ -14,30 +21,62 @@ use Rattle.mt_script.specs.TagLaws.{HasTag-determined}
 abbrev pub IsDetermined : {T : Type 0} → Form T → Type 0
 IsDetermined {T} form = (text : List ℕ) (a b : T) → Reads form text a → Reads form text b → a ≡ b
 
--- then it says one thing
-said-determined : {T : Type 0} (form : Form T) (inside : T → Type 0) → IsDetermined form → (text : List ℕ) (a b : Said T) → IsSaid form inside text a → IsSaid form inside text b → a ≡ b
-said-determined form inside one text Unserved Unserved p q = refl
-said-determined form inside one text Unserved Outside p q = absurd (p q.0 q.1)
-said-determined form inside one text Unserved (Says y) p q = absurd (p y q.0)
-said-determined form inside one text Outside Unserved p q = absurd (q p.0 p.1)
-said-determined form inside one text Outside Outside p q = refl
-said-determined form inside one text Outside (Says y) p q = absurd (p.2 (subst inside (one text y p.0 q.0 p.1) q.1))
-said-determined form inside one text (Says x) Unserved p q = absurd (q x p.0)
-said-determined form inside one text (Says x) Outside p q = absurd (q.2 (subst inside (one text x q.0 p.0 q.1) p.1))
-said-determined form inside one text (Says x) (Says y) p q = ap Says (one text x y p.0 q.0)
+module _ {Tree T : Type 0} (form : Form Tree) (inside : Tree → Type 0) (served : Tree → Option T) where
+  -- then it says one thing
+  said-determined : IsDetermined form → (text : List ℕ) (a b : Said T) → IsSaid form inside served text a → IsSaid form inside served text b → a ≡ b
+  said-determined one text Unread Unread p q = refl
+  said-determined one text Unread Outside p q = absurd (p q.0 q.1)
+  said-determined one text Unread Unserved p q = absurd (p q.0 q.1)
+  said-determined one text Unread (Says y) p q = absurd (p q.0 q.1)
+  said-determined one text Outside Unread p q = absurd (q p.0 p.1)
+  said-determined one text Outside Outside p q = refl
+  said-determined one text Outside Unserved p q = absurd (p.2 (subst inside (one text q.0 p.0 q.1 p.1) q.2))
+  said-determined one text Outside (Says y) p q = absurd (p.2 (subst inside (one text q.0 p.0 q.1 p.1) q.2))
+  said-determined one text Unserved Unread p q = absurd (q p.0 p.1)
+  said-determined one text Unserved Outside p q = absurd (q.2 (subst inside (one text p.0 q.0 p.1 q.1) p.2))
+  said-determined one text Unserved Unserved p q = refl
+  said-determined one text Unserved (Says y) p q =
+      let contrary : None ≡ Some y = sym p.3 ∙ ap served (one text p.0 q.0 p.1 q.1) ∙ q.3 in
+      cc
+  said-determined one text (Says x) Unread p q = absurd (q p.0 p.1)
+  said-determined one text (Says x) Outside p q = absurd (q.2 (subst inside (one text p.0 q.0 p.1 q.1) p.2))
+  said-determined one text (Says x) Unserved p q =
+      let contrary : Some x ≡ None = sym p.3 ∙ ap served (one text p.0 q.0 p.1 q.1) ∙ q.3 in
+      cc
+  said-determined one text (Says x) (Says y) p q =
+      let same : Some x ≡ Some y = sym p.3 ∙ ap served (one text p.0 q.0 p.1 q.1) ∙ q.3 in
+      cc
 
--- two senders of one line are one, and say one thing
-sent-determined : {T : Type 0} (form : Form T) (inside : T → Type 0) → IsDetermined form → (bytes : List ℕ) (who other : Who) (a b : Said T) → IsSent bytes who form inside a → IsSent bytes other form inside b → a ≡ b
-sent-determined form inside one bytes who other a b p q =
+  -- what a text says that gives a tree
+  served-said : (text : List ℕ) (tree : Tree) → Reads form text tree → inside tree → (found : Option T) → served tree ≡ found → (said : Said T) × IsSaid form inside served text said
+  served-said text tree reads is None e = (Unserved, (tree, reads, is, e))
+  served-said text tree reads is (Some x) e = (Says x, (tree, reads, is, e))
+
+  -- what a text gives is what it says
+  pub gives-said : (text : List ℕ) (r : Result Tree ParseFault) → Gives form inside text r → (r ≡ Err fault.Memory → ⊥) → (said : Said T) × IsSaid form inside served text said
+  gives-said text (Ok tree) g h = served-said text tree g.0 g.1 (served tree) refl
+  gives-said text (Err fault.Syntax) g h = (Unread, g)
+  gives-said text (Err fault.Literal) g h = (Outside, g)
+  gives-said text (Err fault.Memory) g h = absurd (h refl)
+
+-- what a tenant's text says, and the administrator's
+pub statement-said : IsDetermined SpellsStmt → (text : List ℕ) (a b : _) → IsStatementSaid text a → IsStatementSaid text b → a ≡ b
+statement-said = said-determined SpellsStmt IsStmtInside served_statement
+
+pub command-said : IsDetermined SpellsCommand → (text : List ℕ) (a b : _) → IsCommandSaid text a → IsCommandSaid text b → a ≡ b
+command-said = said-determined SpellsCommand IsCommandInside served_command
+
+-- one line has one sender and one text
+sender-determined : (bytes : List ℕ) (who other : Who) (says_it says_other : List ℕ → Type 0) → IsSent bytes who says_it → IsSent bytes other says_other → who ≡ other
+sender-determined bytes who other says_it says_other p q = (HasTag-determined bytes who other p.text q.text p.tagged q.tagged).0
+
+sent-determined : {T : Type 0} (says_it : List ℕ → Said T → Type 0) → ((text : List ℕ) (a b : Said T) → says_it text a → says_it text b → a ≡ b) → (bytes : List ℕ) (who other : Who) (a b : Said T) → IsSent bytes who (λ text. says_it text a) → IsSent bytes other (λ text. says_it text b) → a ≡ b
+sent-determined says_it one bytes who other a b p q =
     let texts : p.text ≡ q.text = (HasTag-determined bytes who other p.text q.text p.tagged q.tagged).1 in
-    said-determined form inside one q.text a b (subst (λ (text : List ℕ). IsSaid form inside text a) texts p.says) q.says
-
--- a line has one sender
-sender-determined : {S T : Type 0} (form : Form S) (inside : S → Type 0) (other_form : Form T) (other_inside : T → Type 0) (bytes : List ℕ) (who other : Who) (a : Said S) (b : Said T) → IsSent bytes who form inside a → IsSent bytes other other_form other_inside b → who ≡ other
-sender-determined form inside other_form other_inside bytes who other a b p q = (HasTag-determined bytes who other p.text q.text p.tagged q.tagged).0
+    one q.text a b (subst (λ (text : List ℕ). says_it text a) texts p.says) q.says
 
 -- a line says one thing
-pub IsRequest-determined : IsDetermined SpellsStatement → IsDetermined SpellsCommand → (line : Line) (a b : Request) → IsRequest line a → IsRequest line b → a ≡ b
+pub IsRequest-determined : IsDetermined SpellsStmt → IsDetermined SpellsCommand → (line : Line) (a b : Request) → IsRequest line a → IsRequest line b → a ≡ b
 IsRequest-determined statements commands lines.TooLong LineTooLong LineTooLong p q = refl
 IsRequest-determined statements commands lines.TooLong LineTooLong Unreadable p q = absurd q
 IsRequest-determined statements commands lines.TooLong LineTooLong (Statement n y) p q = absurd q
@@ -48,17 +87,16 @@ IsRequest-determined statements commands (lines.Text bytes) Unreadable (Statemen
 IsRequest-determined statements commands (lines.Text bytes) Unreadable (Command y) p q = absurd (p Admin q.text q.tagged)
 IsRequest-determined statements commands (lines.Text bytes) (Statement m x) Unreadable p q = absurd (q (Tenant m) p.text p.tagged)
 IsRequest-determined statements commands (lines.Text bytes) (Statement m x) (Statement n y) p q =
-    let senders : Tenant m ≡ Tenant n = sender-determined SpellsStatement IsInside SpellsStatement IsInside bytes (Tenant m) (Tenant n) x y p q in
-    let said : x ≡ y = sent-determined SpellsStatement IsInside statements bytes (Tenant m) (Tenant n) x y p q in
+    let senders : Tenant m ≡ Tenant n = sender-determined bytes (Tenant m) (Tenant n) (λ text. IsStatementSaid text x) (λ text. IsStatementSaid text y) p q in
+    let said : x ≡ y = sent-determined IsStatementSaid (statement-said statements) bytes (Tenant m) (Tenant n) x y p q in
     cc
 IsRequest-determined statements commands (lines.Text bytes) (Statement m x) (Command y) p q =
-    let senders : Tenant m ≡ Admin = sender-determined SpellsStatement IsInside SpellsCommand IsCommandInside bytes (Tenant m) Admin x y p q in
+    let senders : Tenant m ≡ Admin = sender-determined bytes (Tenant m) Admin (λ text. IsStatementSaid text x) (λ text. IsCommandSaid text y) p q in
     cc
 IsRequest-determined statements commands (lines.Text bytes) (Command x) Unreadable p q = absurd (q Admin p.text p.tagged)
 IsRequest-determined statements commands (lines.Text bytes) (Command x) (Statement n y) p q =
-    let senders : Admin ≡ Tenant n = sender-determined SpellsCommand IsCommandInside SpellsStatement IsInside bytes Admin (Tenant n) x y p q in
+    let senders : Admin ≡ Tenant n = sender-determined bytes Admin (Tenant n) (λ text. IsCommandSaid text x) (λ text. IsStatementSaid text y) p q in
     cc
-IsRequest-determined statements commands (lines.Text bytes) (Command x) (Command y) p q =
-    ap Command (sent-determined SpellsCommand IsCommandInside commands bytes Admin Admin x y p q)
+IsRequest-determined statements commands (lines.Text bytes) (Command x) (Command y) p q = ap Command (sent-determined IsCommandSaid (command-said commands) bytes Admin Admin x y p q)
 IsRequest-determined statements commands (lines.Text bytes) LineTooLong b p q = absurd p
 IsRequest-determined statements commands (lines.Text bytes) a LineTooLong p q = absurd q

@@ -11,7 +11,7 @@ use Rattle.mt_tree.specs.declared.schema.Table.{Table}
 use Rattle.mt_tree.specs.declared.simple.SimpleCmd.{SimpleCmd}
 use Rattle.mt_tree.specs.declared.simple.SimpleCmd.TheVariants.{CreateTable, CreateTenant}
 use Rattle.mt_script.specs.Lines.{Line}
-use Rattle.mt_grammar.specs.Reading.{Said, Unserved, Outside, Says}
+use Rattle.mt_model.specs.Said.{Said, Unread, Outside, Unserved, Says}
 use Rattle.mt_model.specs.Database.{PrivateDatabase, with_table_in_each}
 use Rattle.mt_model.specs.Answer.{answer, answer_said, next_database, next_view, next_said, first_refusal, reply_text}
 use Rattle.mt_model.specs.Command.{command_refusal, applied, applied_view, new_database, table_of_defs}
@@ -33,8 +33,9 @@ forgone-seen tenant service LineTooLong events = refl
 forgone-seen tenant service Unreadable events = refl
 forgone-seen tenant service (Statement other said) events =
     elim (other == tenant) as (λ own. (if own then [] else []) ++ private_replies (view_of service tenant) events ≡ private_replies (view_of service tenant) ((if own then [] else []) ++ events)) [ true ↦ refl | false ↦ refl ]
-forgone-seen tenant service (Command Unserved) events = refl
+forgone-seen tenant service (Command Unread) events = refl
 forgone-seen tenant service (Command Outside) events = refl
+forgone-seen tenant service (Command Unserved) events = refl
 forgone-seen tenant service (Command (Says (CreateTable name columns))) events = refl
 forgone-seen tenant service (Command (Says (CreateTenant other quota))) events =
     elim (other == tenant) as (λ own. private_replies (view_of service tenant) events ≡ private_replies (view_of service tenant) ((if own then [] else []) ++ events)) [ true ↦ refl | false ↦ refl ]
@@ -45,8 +46,9 @@ decided-unless None text x = refl
 decided-unless (Some code) text x = refl
 
 within-unless : {A : Type 0} (view : View) (database : PrivateDatabase) (said : Said SimpleStmt) (x : A) → unless_forgone (answer_said view database said) x ≡ x ∷ []
-within-unless view database Unserved x = refl
+within-unless view database Unread x = refl
 within-unless view database Outside x = refl
+within-unless view database Unserved x = refl
 within-unless view database (Says statement) x = decided-unless (first_refusal view database statement) (reply_text view database statement) x
 
 answer-unless : {A : Type 0} (tables : List Table) (database : Option PrivateDatabase) (said : Said SimpleStmt) (x : A) → unless_forgone (answer (view_with tables database) said) x ≡ x ∷ []
@@ -120,8 +122,9 @@ step-seen : (tenant : ℕ) (service : Service) (request : Request) → IsSeen te
 step-seen tenant service LineTooLong events = refl
 step-seen tenant service Unreadable events = refl
 step-seen tenant service (Statement other said) events = statement-seen tenant service other said events (other == tenant) refl
-step-seen tenant service (Command Unserved) events = refl
+step-seen tenant service (Command Unread) events = refl
 step-seen tenant service (Command Outside) events = refl
+step-seen tenant service (Command Unserved) events = refl
 step-seen tenant service (Command (Says command)) events = command-seen tenant service command (command_refusal service command) events
 
 -- the line's request is done, or it is answered for want of memory

@@ -6,7 +6,7 @@ use Rattle.mt_tree.specs.declared.simple.SimpleCmd.{SimpleCmd}
 use Rattle.mt_tree.specs.declared.reply.Reply.TheVariants.{Text, Refused}
 use Rattle.mt_tree.specs.declared.simple.SimpleStmt.{SimpleStmt}
 use Rattle.mt_script.specs.Lines.{Line}
-use Rattle.mt_grammar.specs.Reading.{Said, Unserved, Outside, Says}
+use Rattle.mt_model.specs.Said.{Said, Unread, Outside, Unserved, Says}
 use Rattle.mt_model.specs.Answer.{answer, answer_said, next_said, next_database, first_refusal, reply_text, changed}
 use Rattle.mt_model.specs.Command.{command_refusal, applied}
 use Rattle.mt_model.specs.Database.{PrivateDatabase}
@@ -24,8 +24,9 @@ decided-kept (Some refusal) text new old code e = refl
 
 -- a refused statement leaves its tenant's database
 next_said-refused : (view : View) (database : PrivateDatabase) (said : Said SimpleStmt) (code : Code) → Refused code ≡ answer_said view database said → next_said view database said ≡ database
-next_said-refused view database Unserved code e = refl
+next_said-refused view database Unread code e = refl
 next_said-refused view database Outside code e = refl
+next_said-refused view database Unserved code e = refl
 next_said-refused view database (Says statement) code e =
     decided-kept (first_refusal view database statement) (reply_text view database statement) (changed view database statement) database code e
 
@@ -48,8 +49,9 @@ step-refused : (service : Service) (request : Request) (code : Code) → Refused
 step-refused service LineTooLong code e = refl
 step-refused service Unreadable code e = refl
 step-refused service (Statement tenant said) code e = statement-refused service tenant said code (finite.get service.tenants tenant) refl e
-step-refused service (Command Unserved) code e = refl
+step-refused service (Command Unread) code e = refl
 step-refused service (Command Outside) code e = refl
+step-refused service (Command Unserved) code e = refl
 step-refused service (Command (Says command)) code e = command-refused service command code (command_refusal service command) e
 
 -- so does a line that is refused

@@ -6,7 +6,7 @@ use Rattle.mt_value.specs.declared.value.Value.TheVariants as value
 use Rattle.mt_value.specs.Printed.{value_text}
 use Rattle.mt_value.specs.Sorted.{in_row_order}
 use Rattle.mt_tree.specs.declared.code.Code.{Code}
-use Rattle.mt_tree.specs.declared.code.Code.TheVariants.{UnknownTenant, NotServed, NumberOutside64Bits, UnknownTable, UnknownColumn, TypesDoNotFit, TextTooLong, QuotaFull, RowNumbersUsedUp}
+use Rattle.mt_tree.specs.declared.code.Code.TheVariants.{UnknownTenant, Syntax, NotServed, NumberOutside64Bits, UnknownTable, UnknownColumn, TypesDoNotFit, TextTooLong, QuotaFull, RowNumbersUsedUp}
 use Rattle.mt_tree.specs.declared.reply.Reply.{Reply}
 use Rattle.mt_tree.specs.declared.reply.Reply.TheVariants.{Text, Refused}
 use Rattle.mt_tree.specs.declared.schema.Column.{Column}
@@ -16,7 +16,7 @@ use Rattle.mt_tree.specs.declared.simple.SimpleStmt.{SimpleStmt}
 use Rattle.mt_tree.specs.declared.simple.SimpleStmt.TheVariants.{Insert, Select}
 use Rattle.mt_model.specs.Database.{TableContent, PrivateDatabase, no_rows, kept_rows, visible_rows, with_row}
 use Rattle.mt_model.specs.Tables.{table_number, column_place, column_names, value_of, fit_columns, are_short}
-use Rattle.mt_grammar.specs.Reading.{Said, Unserved, Outside, Says}
+use Rattle.mt_model.specs.Said.{Said, Unread, Outside, Unserved, Says}
 use Rattle.mt_model.specs.Service.{View}
 
 -- the first code whose test holds
@@ -126,14 +126,16 @@ next_within view database statement =
 
 -- the answer to what a line says, for a tenant that is there
 abbrev pub answer_said : View → PrivateDatabase → Said SimpleStmt → Reply
-answer_said view database Unserved = Refused NotServed
+answer_said view database Unread = Refused Syntax
 answer_said view database Outside = Refused NumberOutside64Bits
+answer_said view database Unserved = Refused NotServed
 answer_said view database (Says statement) = answer_within view database statement
 
 -- the database after what a line says, for a tenant that is there
 abbrev pub next_said : View → PrivateDatabase → Said SimpleStmt → PrivateDatabase
-next_said view database Unserved = database
+next_said view database Unread = database
 next_said view database Outside = database
+next_said view database Unserved = database
 next_said view database (Says statement) = next_within view database statement
 
 -- the answer to what a tenant's line says; there must be such a tenant

@@ -1,5 +1,5 @@
 -- The private database of one tenant.
-use Rattle.std.specs.Prelude.{ℕ, ◌+◌, Bool, true, List, [], ◌∷◌, ◌++◌, length, map, filter, sum_by, Option, option_map}
+use Rattle.std.specs.Prelude.{ℕ, ◌+◌, true, List, [], ◌∷◌, ◌++◌, length, map, filter, sum_by, option_map}
 use Rattle.mt_value.specs.declared.value.Value.{Value}
 use Rattle.mt_tree.specs.declared.schema.Table.{Table}
 pub use Rattle.mt_model.specs.declared.database.MarkedRow.{MarkedRow}

@@ -7,7 +7,7 @@ use Rattle.mt_tree.specs.declared.reply.Reply.TheVariants.{Text}
 use Rattle.mt_script.specs.Lines as lines
 use Rattle.mt_script.specs.Lines.{Line}
 use Rattle.mt_model.specs.Command.{applied}
-use Rattle.mt_grammar.specs.Reading.{Unserved, Says}
+use Rattle.mt_model.specs.Said.{Unserved, Says}
 use Rattle.mt_model.specs.Request.{Request, LineTooLong, Command}
 use Rattle.mt_model.specs.Service.{Service, quota_total}
 use Rattle.mt_model.specs.Step.{Stepped, refused, step}

@@ -7,7 +7,7 @@ use Rattle.mt_tree.specs.declared.simple.SimpleCmd.{SimpleCmd}
 use Rattle.mt_tree.specs.declared.simple.SimpleCmd.TheVariants.{CreateTable, CreateTenant}
 use Rattle.mt_model.specs.Answer.{answer, next_view}
 use Rattle.mt_model.specs.Command.{applied_view}
-use Rattle.mt_grammar.specs.Reading.{Said, Unserved, Outside, Says}
+use Rattle.mt_model.specs.Said.{Said, Unread, Outside, Unserved, Says}
 use Rattle.mt_model.specs.Request.{Request, LineTooLong, Unreadable, Statement, Command, IsRequest}
 use Rattle.mt_model.specs.Run.{Rules}
 use Rattle.mt_model.specs.Service.{View}
@@ -43,8 +43,9 @@ command_events tenant (CreateTenant other quota) reply = if other == tenant then
 
 -- what a command of the administrator is to the tenant
 abbrev pub said_events : ℕ → Said SimpleCmd → Reply → List Event
-said_events tenant Unserved reply = []
+said_events tenant Unread reply = []
 said_events tenant Outside reply = []
+said_events tenant Unserved reply = []
 said_events tenant (Says command) reply = command_events tenant command reply
 
 -- what a request is to the tenant

@@ -3,11 +3,13 @@ pub mod Command
 pub mod Database
 pub mod FirstPath
 pub mod Isolation
+pub mod Laws
 pub mod Request
 pub mod Run
+pub mod Said
+pub mod Served
 pub mod Service
 pub mod Step
 pub mod Tables
 pub use Rattle.mt_script.specs.Lines
 pub use Rattle.mt_tree.specs.Replies
-pub mod Laws

@@ -4,12 +4,10 @@ use Rattle.mt_tree.specs.declared.who.Who.{Who}
 use Rattle.mt_tree.specs.declared.who.Who.TheVariants.{Admin, Tenant}
 use Rattle.mt_tree.specs.declared.simple.SimpleStmt.{SimpleStmt}
 use Rattle.mt_tree.specs.declared.simple.SimpleCmd.{SimpleCmd}
-use Rattle.mt_grammar.specs.Forms.{Form}
-use Rattle.mt_grammar.specs.Reading.{IsSaid, Said}
-use Rattle.mt_grammar.specs.Simple.{SpellsStatement, IsInside, SpellsCommand, IsCommandInside}
 use Rattle.mt_script.specs.Lines as lines
 use Rattle.mt_script.specs.Lines.{Line}
 use Rattle.mt_script.specs.Tags.{HasTag}
+use Rattle.mt_model.specs.Said.{Said, IsStatementSaid, IsCommandSaid}
 
 -- what a line asks: of a tenant's database, or of the service
 pub data Request : Type 0 where
@@ -20,10 +18,10 @@ pub data Request : Type 0 where
   Command : (said : Said SimpleCmd) → Request
 
 -- the line has the tag, and the text behind it says this
-pub record IsSent {T : Type 0} (bytes : List ℕ) (who : Who) (form : Form T) (inside : T → Type 0) (said : Said T) : Type 0 where
+pub record IsSent (bytes : List ℕ) (who : Who) (says_it : List ℕ → Type 0) : Type 0 where
   pub text : List ℕ
   pub tagged : HasTag bytes who text
-  pub says : IsSaid form inside text said
+  pub says : says_it text
 
 -- the line says this; each line says one thing
 abbrev pub IsRequest : Line → Request → Type 0
@@ -31,5 +29,5 @@ IsRequest lines.TooLong LineTooLong = Unit {0}
 IsRequest lines.TooLong request = ⊥
 IsRequest (lines.Text bytes) LineTooLong = ⊥
 IsRequest (lines.Text bytes) Unreadable = (who : Who) (text : List ℕ) → HasTag bytes who text → ⊥
-IsRequest (lines.Text bytes) (Statement tenant said) = IsSent bytes (Tenant tenant) SpellsStatement IsInside said
-IsRequest (lines.Text bytes) (Command said) = IsSent bytes Admin SpellsCommand IsCommandInside said
+IsRequest (lines.Text bytes) (Statement tenant said) = IsSent bytes (Tenant tenant) (λ text. IsStatementSaid text said)
+IsRequest (lines.Text bytes) (Command said) = IsSent bytes Admin (λ text. IsCommandSaid text said)

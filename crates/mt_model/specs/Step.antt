@@ -7,7 +7,7 @@ use Rattle.mt_tree.specs.declared.reply.Reply.{Reply}
 use Rattle.mt_tree.specs.declared.reply.Reply.TheVariants.{Text, Refused}
 use Rattle.mt_model.specs.Answer.{answer, next_database}
 use Rattle.mt_model.specs.Command.{command_refusal, applied}
-use Rattle.mt_grammar.specs.Reading.{Said, Unserved, Outside, Says}
+use Rattle.mt_model.specs.Said.{Said, Unread, Outside, Unserved, Says}
 use Rattle.mt_model.specs.Request.{Request, LineTooLong, Unreadable, Statement, Command}
 use Rattle.mt_model.specs.Service.{Service, view_of, put_database}
 
@@ -30,8 +30,9 @@ command_step service command =
 
 -- the step of what the administrator's line says
 abbrev pub command_said : Service → Said SimpleCmd → Stepped
-command_said service Unserved = refused service code.NotServed
+command_said service Unread = refused service code.Syntax
 command_said service Outside = refused service code.NumberOutside64Bits
+command_said service Unserved = refused service code.NotServed
 command_said service (Says command) = command_step service command
 
 -- the step of a request: every line is answered, and only an accepted one changes the service

@@ -3,19 +3,33 @@ ghost use Rattle.mt_tree.specs.declared.code.Code.{Code};
 ghost use Rattle.mt_tree.specs.declared.code.Code.TheVariants as code;
 ghost use Rattle.mt_tree.specs.declared.reply.Reply.{Reply};
 ghost use Rattle.mt_tree.specs.declared.reply.Reply.TheVariants.{Refused, Memory};
+ghost use Rattle.mt_tree.specs.declared.simple.SimpleStmt.{SimpleStmt};
+ghost use Rattle.mt_tree.specs.declared.simple.SimpleCmd.{SimpleCmd};
 ghost use Rattle.mt_script.specs.Lines.{Line};
 ghost use Rattle.mt_model.specs.Isolation.{service_rules, own_events, replies_to, private_replies};
 ghost use Rattle.mt_model.specs.Request.{Request, LineTooLong, Unreadable, IsRequest};
 ghost use Rattle.mt_model.specs.Run.{Answers, IsRun};
+ghost use Rattle.mt_model.specs.Said.{Said, IsStatementSaid, IsCommandSaid};
 ghost use Rattle.mt_model.specs.Service.{Service, view_of};
 
-use mt_grammar::simple_readings_are_determined;
+use mt_adminlang::{commands_are_determined, each_command_text_gives_something};
+use mt_grammar::{each_statement_text_gives_something, statements_are_determined};
 
 /// Each line says one thing.
 pub fn each_line_says_one_thing()
     ensures { (line : Line) (a b : Request) → IsRequest line a → IsRequest line b → a ≡ b }
 {
-    simple_readings_are_determined();
+    statements_are_determined();
+    commands_are_determined();
+}
+
+/// Each text says something to a tenant's database, and to the service as a command.
+pub fn each_text_says_something()
+    ensures statement { (text : List ℕ) → (said : Said SimpleStmt) × IsStatementSaid text said }
+    ensures command { (text : List ℕ) → (said : Said SimpleCmd) × IsCommandSaid text said }
+{
+    each_statement_text_gives_something();
+    each_command_text_gives_something();
 }
 
 /// A line is refused as too long, or as not readable, exactly where it is so, whatever the service.

@@ -14,7 +14,7 @@ use Rattle.mt_tree.specs.declared.reply.Reply.{Reply}
 use Rattle.mt_tree.specs.declared.reply.Reply.TheVariants.{Text, Refused, Memory}
 use Rattle.mt_tree.specs.declared.schema.Table.{Table}
 use Rattle.mt_tree.specs.declared.simple.SimpleStmt.{SimpleStmt}
-use Rattle.mt_grammar.specs.Reading.{Said, Says}
+use Rattle.mt_model.specs.Said.{Said, Says}
 use Rattle.mt_model.specs.declared.database.PrivateDatabase.{PrivateDatabase}
 use Rattle.mt_model.specs.Answer.{answer, next_database}
 use Rattle.mt_model.specs.Command.{command_refusal, applied, new_database, table_of_defs}

@@ -8,7 +8,7 @@ use Rattle.mt_tree.specs.declared.reply.Reply.{Reply}
 use Rattle.mt_tree.specs.declared.reply.Reply.TheVariants.{Text, Refused}
 use Rattle.mt_tree.specs.declared.simple.SimpleStmt.{SimpleStmt}
 use Rattle.mt_tree.specs.declared.simple.SimpleStmt.TheVariants.{Insert, Select}
-use Rattle.mt_grammar.specs.Reading.{Said, Unserved, Outside, Says}
+use Rattle.mt_model.specs.Said.{Said, Unread, Outside, Unserved, Says}
 use Rattle.mt_model.specs.declared.database.PrivateDatabase.{PrivateDatabase}
 use Rattle.mt_model.specs.Answer.{first_holding, first_refusal, tests_at, tests_of, table_of, answer_said, reply_text}
 use Rattle.mt_model.specs.Command.{command_refusal, table_tests, tenant_tests, applied}
@@ -46,6 +46,7 @@ tests_of-yield view database statement =
 
 -- a tenant's statement
 pub answer_said-yields : (view : View) (database : PrivateDatabase) (said : Said SimpleStmt) → YieldsToMemory (answer_said view database said)
+answer_said-yields view database Unread = tt
 answer_said-yields view database Unserved = tt
 answer_said-yields view database Outside = tt
 answer_said-yields view database (Says statement) =
@@ -61,6 +62,7 @@ command_refusal-yields service (CreateTenant tenant quota) = tests-yield (tenant
 
 -- the administrator's command
 pub command_said-yields : (service : Service) (said : Said SimpleCmd) → YieldsToMemory (command_said service said).reply
+command_said-yields service Unread = tt
 command_said-yields service Unserved = tt
 command_said-yields service Outside = tt
 command_said-yields service (Says command) =

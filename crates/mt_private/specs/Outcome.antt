@@ -5,7 +5,7 @@ use Rattle.mt_tree.specs.declared.schema.Table.{Table}
 use Rattle.mt_tree.specs.declared.reply.Reply.{Reply}
 use Rattle.mt_tree.specs.declared.reply.Reply.TheVariants.{Memory}
 use Rattle.mt_tree.specs.declared.simple.SimpleStmt.{SimpleStmt}
-use Rattle.mt_grammar.specs.Reading.{Said}
+use Rattle.mt_model.specs.Said.{Said}
 use Rattle.mt_model.specs.Answer.{answer_said, next_said}
 use Rattle.mt_model.specs.declared.database.PrivateDatabase.{PrivateDatabase}
 use Rattle.mt_model.specs.Database.{Content, no_rows, with_row}

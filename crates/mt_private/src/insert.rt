@@ -1,6 +1,6 @@
 ghost use Rattle.std.specs.Prelude.{◌≡◌, ◌<◌, ◌+◌, ◌^◌, ◌++◌, [], ◌∷◌, map, codes, nat_lt, not, slice_index_or, slice_set, length, IfOk, OnOk, OnErr};
 ghost use Rattle.mt_tree.specs.declared.simple.SimpleStmt.TheVariants.{Insert};
-ghost use Rattle.mt_grammar.specs.Reading.{Says};
+ghost use Rattle.mt_model.specs.Said.{Says};
 ghost use Rattle.mt_model.specs.Answer.{first_holding, insert_tests};
 ghost use Rattle.mt_model.specs.Database.{no_rows, kept_rows, with_row};
 ghost use Rattle.mt_model.specs.Tables.{value_of};

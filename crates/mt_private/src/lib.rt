@@ -10,7 +10,9 @@ mod insert;
 mod names;
 mod plain;
 mod print;
+mod said;
 mod select;
+mod served;
 mod statement;
 #[cfg(test)]
 mod tests;

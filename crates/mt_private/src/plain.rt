@@ -3,14 +3,14 @@ ghost use Rattle.mt_tree.specs.declared.simple.SimpleCmd.{SimpleCmd};
 ghost use Rattle.mt_tree.specs.declared.simple.SimpleCmd.TheVariants.{CreateTable, CreateTenant};
 ghost use Rattle.mt_tree.specs.declared.simple.SimpleStmt.{SimpleStmt};
 ghost use Rattle.mt_script.specs.Lines.{Text};
-ghost use Rattle.mt_grammar.specs.Reading.{Said, Says, IsSaid};
-ghost use Rattle.mt_grammar.specs.Simple.{SpellsStatement, IsInside, SpellsCommand, IsCommandInside};
+ghost use Rattle.mt_model.specs.Said.{Said, Says, IsStatementSaid, IsCommandSaid};
 
 use crate::create_table::{table_of, table_refusal};
 use crate::create_tenant::{Tenants, new_database, tenant_refusal};
+use crate::said::{ServeFault, said_command};
 use crate::statement::statement;
-use mt_grammar::{SimpleFault, each_text_says_something, simple_command};
 use mt_list::List;
+use mt_model::each_text_says_something;
 use mt_script::split_tag;
 use mt_tree::{Code, Reply, ReplyText, Schema, SimpleCmd, SimpleDef, Who};
 use mt_value::Str;
@@ -78,7 +78,7 @@ impl Plain {
 
     // Answers a tenant's line by the text behind its tag.
     fn statement(&mut self, tenant: u32, text: &str) -> Reply
-        ensures { (said : Said SimpleStmt) × IsSaid SpellsStatement IsInside text.now said × ComesTo self.old (Statement tenant said) result self.new }
+        ensures { (said : Said SimpleStmt) × IsStatementSaid text.now said × ComesTo self.old (Statement tenant said) result self.new }
     {
         each_text_says_something();
         let Some(database) = self.tenants.get_mut(&tenant) else {
@@ -89,15 +89,16 @@ impl Plain {
 
     // Answers the administrator's line by the text behind its tag.
     fn command(&mut self, text: &str) -> Reply
-        ensures { (said : Said SimpleCmd) × IsSaid SpellsCommand IsCommandInside text.now said × ComesTo self.old (Command said) result self.new }
+        ensures { (said : Said SimpleCmd) × IsCommandSaid text.now said × ComesTo self.old (Command said) result self.new }
     {
         each_text_says_something();
-        match simple_command(self.alloc, text) {
+        match said_command(self.alloc, text) {
             Ok(SimpleCmd::CreateTable { name, columns }) => self.create_table(name, columns),
             Ok(SimpleCmd::CreateTenant { tenant, quota }) => self.create_tenant(tenant, quota),
-            Err(SimpleFault::Unserved) => Reply::Refused(Code::NotServed),
-            Err(SimpleFault::Outside) => Reply::Refused(Code::NumberOutside64Bits),
-            Err(SimpleFault::Memory) => Reply::Memory,
+            Err(ServeFault::Unread) => Reply::Refused(Code::Syntax),
+            Err(ServeFault::Outside) => Reply::Refused(Code::NumberOutside64Bits),
+            Err(ServeFault::Unserved) => Reply::Refused(Code::NotServed),
+            Err(ServeFault::Memory) => Reply::Memory,
         }
     }
 

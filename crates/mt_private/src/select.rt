@@ -2,7 +2,7 @@ ghost use Rattle.std.specs.Prelude.{◌≡◌, map, slice_index_or, IfOk, is_som
 ghost use Rattle.std.specs.List.{list_all};
 ghost use Rattle.mt_value.specs.Sorted.{in_row_order};
 ghost use Rattle.mt_tree.specs.declared.simple.SimpleStmt.TheVariants.{Select};
-ghost use Rattle.mt_grammar.specs.Reading.{Says};
+ghost use Rattle.mt_model.specs.Said.{Says};
 ghost use Rattle.mt_model.specs.Answer.{first_holding, select_tests, output_names, places_of, projected, select_text};
 ghost use Rattle.mt_model.specs.Database.{no_rows};
 ghost use Rattle.mt_model.specs.Tables.{column_place};

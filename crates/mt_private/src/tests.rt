@@ -4,7 +4,7 @@ use mt_tree::{Code, Reply};
 use std::test::Fail;
 
 /// Lines, and what each is answered.
-const LINES: [(&str, &str); 28] = [
+const LINES: [(&str, &str); 44] = [
     ("nobody", "error E02 line not readable\n"),
     ("@admin CREATE TABLE t (a INTEGER, b VARCHAR(5))", "ok\n"),
     (
@@ -54,6 +54,46 @@ const LINES: [(&str, &str); 28] = [
     ("@2 INSERT INTO u VALUES (NULL)", "ok 1\n"),
     ("@2 SELECT * FROM u", "columns c\nNULL\nok 1\n"),
     ("@2 INSERT INTO u VALUES (3)", "error E30 quota full\n"),
+    ("@2 SELECT (a) FROM t", "columns a\n-1\n2\nok 2\n"),
+    ("@3 BEGIN", "error E03 unknown tenant\n"),
+    ("@2 BEGIN", "error E10 syntax\n"),
+    ("@2 INSERT INTO t VALUES (1", "error E10 syntax\n"),
+    (
+        "@2 SELECT a FROM t WHERE a = DATE '2026-01-01'",
+        "error E10 syntax\n",
+    ),
+    (
+        "@2 SELECT a FROM t WHERE a < -9223372036854775808",
+        "error E09 not served here\n",
+    ),
+    (
+        "@2 SELECT a FROM nowhere WHERE a < -9223372036854775809",
+        "error E16 number outside 64 bits\n",
+    ),
+    (
+        "@2 SELECT a x FROM t LIMIT 9223372036854775808",
+        "error E10 syntax\n",
+    ),
+    (
+        "@2 INSERT INTO t (a, b) VALUES (1, 'x')",
+        "error E09 not served here\n",
+    ),
+    ("@2 CREATE TENANT 4 QUOTA 1", "error E10 syntax\n"),
+    ("@admin SELECT a FROM t", "error E10 syntax\n"),
+    ("@admin CREATE TABLE t", "error E10 syntax\n"),
+    (
+        "@admin CREATE TABLE t (a INTEGER NOT NULL)",
+        "error E09 not served here\n",
+    ),
+    ("@admin STEP 1 t 5", "error E09 not served here\n"),
+    (
+        "@admin STEP 1 t 9223372036854775808",
+        "error E16 number outside 64 bits\n",
+    ),
+    (
+        "@admin EXPLAIN 1 SELECT a FROM t",
+        "error E09 not served here\n",
+    ),
 ];
 
 /// What a reply prints.

@@ -6,7 +6,7 @@ use Rattle.mt_lexer.specs.Tokens.{Lexeme}
 use Rattle.mt_reader.specs.declared.fault.ReadFault.{ReadFault}
 use Rattle.mt_reader.specs.Forms.{Form, Separated, Joined}
 use Rattle.mt_reader.specs.Descent.{is_same, after, separated_of, joined_tree, joined_of}
-use Rattle.mt_reader.specs.Shrinking.{bind_some, same_tree, same_rest}
+use Rattle.mt_reader.proofs.Shrinking.{bind_some, same_tree, same_rest}
 use Rattle.mt_reader.specs.Taken.{Keeps, Took, Fails}
 use Rattle.mt_reader.proofs.Literals.{fails_bind}
 use Rattle.mt_reader.proofs.Spelling.{IsSound, IsCompleteBefore, Shrinks, separated_sound, separated_shrinks, separated_complete_before}

@@ -8,3 +8,7 @@ pub mod Parts
 pub mod Quoting
 pub mod Spelling
 pub mod Steps
+pub mod Texts
+pub mod Maybes
+pub mod Shrinking
+pub mod Decided

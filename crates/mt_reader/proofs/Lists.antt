@@ -6,7 +6,7 @@ use Rattle.std.specs.List.{All}
 use Rattle.std.specs.Option.{option_and_then}
 use Rattle.mt_lexer.specs.Tokens.{Lexeme}
 use Rattle.mt_reader.specs.Descent.{after, items_of, items_behind, separated_of, with_front, pushed}
-use Rattle.mt_reader.specs.Shrinking.{after_shrinks}
+use Rattle.mt_reader.proofs.Shrinking.{after_shrinks}
 use Rattle.mt_reader.specs.Taken.{Keeps, Took, Fails}
 use Rattle.mt_reader.specs.declared.fault.ReadFault.{ReadFault}
 use Rattle.mt_reader.specs.declared.fault.ReadFault.TheVariants as fault

@@ -7,7 +7,7 @@ use Rattle.mt_tree.specs.declared.expression.Literal.TheVariants.{Null, Int, Tex
 use Rattle.mt_reader.specs.Literals.{SpellsLiteral}
 use Rattle.mt_reader.specs.Names.{IsName}
 use Rattle.mt_reader.specs.Descent.{after, name_of, number_of, literal_of}
-use Rattle.mt_reader.specs.Shrinking.{bind_some, same_tree, same_rest}
+use Rattle.mt_reader.proofs.Shrinking.{bind_some, same_tree, same_rest}
 use Rattle.mt_reader.proofs.Spelling.{IsSound, IsComplete, after_is, name_is, number_is}
 
 -- names

@@ -8,9 +8,9 @@ use Rattle.mt_lexer.specs.contracts.token.Symbol.{the_type}
 use Rattle.mt_lexer.specs.declared.token.Symbol.TheVariants as symbol
 use Rattle.mt_lexer.specs.Tokens.{Lexeme, Word, Number, Quoted, Sign}
 use Rattle.mt_reader.specs.Forms.{Form, Separated, WithSemicolon}
-use Rattle.mt_reader.specs.Fronts.{Begins}
+use Rattle.mt_reader.specs.Fronts.{Begins, AtEnd}
 use Rattle.mt_reader.specs.Descent.{is_same, after, name_of, number_of, is_reserved_name, items_of, items_behind, separated_of, with_front, ended, end_of}
-use Rattle.mt_reader.specs.Shrinking.{bind_some, guard_some, test_some, same_tree, same_rest, after_shrinks}
+use Rattle.mt_reader.proofs.Shrinking.{bind_some, guard_some, test_some, same_tree, same_rest, after_shrinks}
 
 -- lexemes that pass the test are one
 is_same-true : (a b : Lexeme) → is_same a b ≡ true → a ≡ b
@@ -78,7 +78,7 @@ separated_more item by front back x [] f s = elim s [ ]
 separated_more item by front back x (y ∷ ys) f s = record { front = front; back = back; split = refl; first = f; others = s }
 
 -- a separator is taken
-after_same : (by : Lexeme) (rest : List Lexeme) → is_same by by ≡ true → after by (by ∷ rest) ≡ Some rest
+pub after_same : (by : Lexeme) (rest : List Lexeme) → is_same by by ≡ true → after by (by ∷ rest) ≡ Some rest
 unfolding after
 after_same by rest same = rw same refl
 
@@ -189,11 +189,11 @@ ended_sound form read sound lexemes tree e =
     }
 
 -- what is spelled so is read, perhaps with a semicolon at the end
-pub ended_complete : {T : Type 0} (form : Form T) (read : List Lexeme → Option (T × List Lexeme)) → IsComplete form read → (lexemes : List Lexeme) (tree : T) → WithSemicolon form lexemes tree → ended (read lexemes) ≡ Some tree
+pub ended_complete : {T : Type 0} (form : Form T) (read : List Lexeme → Option (T × List Lexeme)) → IsCompleteBefore form AtEnd read → (lexemes : List Lexeme) (tree : T) → WithSemicolon form lexemes tree → ended (read lexemes) ≡ Some tree
 unfolding end_of after
 ended_complete form read complete lexemes tree s = elim s.end [
-  | inl e ↦ ap (λ ls. ended (read ls)) (e ∙ sym (append-nil s.front)) ∙ ap ended (complete s.front [] tree s.body)
-  | inr e ↦ ap (λ ls. ended (read ls)) e ∙ ap ended (complete s.front (Sign symbol.Semicolon ∷ []) tree s.body)
+  | inl e ↦ ap (λ ls. ended (read ls)) (e ∙ sym (append-nil s.front)) ∙ ap ended (complete s.front [] tree (inl refl) s.body)
+  | inr e ↦ ap (λ ls. ended (read ls)) e ∙ ap ended (complete s.front (Sign symbol.Semicolon ∷ []) tree (inr refl) s.body)
 ]
 
 -- what is read takes a lexeme at least, where each spelling has one

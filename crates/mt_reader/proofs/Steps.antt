@@ -1,5 +1,5 @@
 -- One step of a reader.
-use Rattle.std.proofs.Common.{◌≡◌, ℕ, Bool, true, false, cond, Some, None, List, [], ◌∷◌, drop, map, refl, sym, ap, ◌∙◌, subst, unwrap_or, arith}
+use Rattle.std.proofs.Common.{◌≡◌, ℕ, Bool, true, false, cond, Some, None, is_some, List, [], ◌∷◌, drop, map, refl, sym, ap, ◌∙◌, subst, unwrap_or, arith}
 use Rattle.std.proofs.lemmas.Bool.{cond-true, cond-false}
 use Rattle.std.proofs.lemmas.Bool.Decides.{nat_tests}
 use Rattle.std.specs.Borrow.{Bor}
@@ -109,3 +109,18 @@ number_of_digits (piece.Number bytes) lexemes rest digits e h s =
     ap number_of e ∙ ap (λ d. Some (digits_value 10 d.now, drop 1 lexemes)) same ∙ ap (λ left. Some (digits_value 10 digits.now, left)) (sym s)
 number_of_digits (piece.Text bytes) lexemes rest digits e h s = cc
 number_of_digits (piece.Symbol symbol) lexemes rest digits e h s = cc
+
+-- a test, and something where it holds
+some-test : {A : Type 0} (test : Bool) (x : A) → is_some (cond test (Some x) None) ≡ test
+some-test true x = refl
+some-test false x = refl
+
+-- the first lexeme tells whether another is at the front
+pub at_front : (first lexeme : Lexeme) (lexemes : List Lexeme) → lexemes ≡ first ∷ drop 1 lexemes → is_same first lexeme ≡ is_some (after lexeme lexemes)
+unfolding after
+at_front first lexeme lexemes e = sym (ap (λ ls. is_some (after lexeme ls)) e ∙ some-test (is_same first lexeme) (drop 1 lexemes))
+
+-- at the end nothing is at the front
+pub at_end : (lexeme : Lexeme) (lexemes : List Lexeme) → lexemes ≡ [] → false ≡ is_some (after lexeme lexemes)
+unfolding after
+at_end lexeme lexemes e = sym (ap (λ ls. is_some (after lexeme ls)) e)

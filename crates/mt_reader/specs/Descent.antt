@@ -9,7 +9,7 @@ use Rattle.mt_lexer.specs.declared.token.Symbol.TheVariants as symbol
 use Rattle.mt_lexer.specs.Tokens.{Lexeme, Word, Number, Quoted, Sign}
 use Rattle.mt_tree.specs.declared.expression.Literal.{Literal}
 use Rattle.mt_tree.specs.declared.expression.Literal.TheVariants.{Null, Int, Text}
-use Rattle.mt_reader.specs.Names.{reserved}
+use Rattle.mt_lexer.specs.Reserved.{reserved}
 
 infixl 10 ◌>>=◌
 -- what is read next from what was read, if there is anything
@@ -103,6 +103,17 @@ items_of item by (suc fuel) lexemes = do
 -- items with the separator between them, as many as there are
 unfoldable pub separated_of : {X : Type 0} → (List Lexeme → Option (X × List Lexeme)) → Lexeme → List Lexeme → Option (List X × List Lexeme)
 separated_of item by lexemes = items_of item by (length lexemes) lexemes
+
+-- an item behind the word, where the word is there
+abbrev pub maybe_behind : {X : Type 0} → (List Lexeme → Option (X × List Lexeme)) → List Lexeme → Option (List Lexeme) → Option (Option X × List Lexeme)
+maybe_behind item lexemes None = Some (None, lexemes)
+maybe_behind item lexemes (Some rest) = do
+  found ← item rest
+  Some (Some found.0, found.1)
+
+-- perhaps a word, and an item behind it
+unfoldable pub maybe_of : {X : Type 0} → (List Lexeme → Option (X × List Lexeme)) → Lexeme → List Lexeme → Option (Option X × List Lexeme)
+maybe_of item by lexemes = maybe_behind item lexemes (after by lexemes)
 
 -- one item is itself, and more are joined
 abbrev pub joined_tree : {X : Type 0} → (List X → X) → List X → X

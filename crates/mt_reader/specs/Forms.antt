@@ -1,7 +1,7 @@
 -- What the rules of the grammar are made of. A form says which tokens spell which trees.
-use Rattle.std.specs.Prelude.{◌≡◌, ◌⊎◌, ◌≤◌, Bool, true, false, List, [], ◌∷◌, ◌++◌, length, Option, Some, None}
-use Rattle.mt_lexer.specs.Tokens.{Lexeme, Sign}
-use Rattle.mt_lexer.specs.declared.token.Symbol.TheVariants.{Open, Close, Semicolon}
+use Rattle.std.specs.Prelude.{◌≡◌, ◌⊎◌, ℕ, ◌≤◌, Bool, true, false, List, [], ◌∷◌, ◌++◌, length, Option, Some, None}
+use Rattle.mt_lexer.specs.Tokens.{Lexeme, Word, Sign}
+use Rattle.mt_lexer.specs.declared.token.Symbol.TheVariants.{Open, Close, Comma, Semicolon}
 
 -- List Lexeme → T → Type 0
 abbrev pub Form : Type 0 → Type 1
@@ -21,6 +21,10 @@ Separated item by tokens [] = ⊥
 Separated item by tokens (x ∷ []) = item tokens x
 Separated item by tokens (x ∷ y ∷ ys) = Both item by (λ back. Separated item by back (y ∷ ys)) tokens x
 
+-- one item or more, with commas between
+abbrev pub Commas : {T : Type 0} → Form T → List Lexeme → List T → Type 0
+Commas item tokens xs = Separated item (Sign Comma) tokens xs
+
 -- perhaps with a semicolon at the end
 pub record WithSemicolon {T : Type 0} (form : Form T) (tokens : List Lexeme) (tree : T) : Type 0 where
   pub front : List Lexeme
@@ -37,6 +41,10 @@ pub record Many {T : Type 0} (item : Form T) (by : Lexeme) (join : List T → T)
 -- one item alone, or many that are joined
 abbrev pub Joined : {T : Type 0} → Form T → Lexeme → (List T → T) → List Lexeme → T → Type 0
 Joined item by join tokens tree = item tokens tree ⊎ Many item by join tokens tree
+
+-- one word
+abbrev pub word : List ℕ → List Lexeme
+word name = Word name ∷ []
 
 -- in brackets
 pub record Bracketed {T : Type 0} (form : Form T) (tokens : List Lexeme) (tree : T) : Type 0 where

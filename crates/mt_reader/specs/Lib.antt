@@ -5,5 +5,5 @@ pub mod Lexing
 pub mod Literals
 pub mod Names
 pub mod Pieces
-pub mod Shrinking
+pub mod Reading
 pub mod Taken

@@ -1,19 +1,9 @@
--- Words that have a meaning of their own, and names.
-use Rattle.std.specs.Prelude.{◌≡◌, ℕ, false, List, [], ◌∷◌, codes}
+-- Names.
+use Rattle.std.specs.Prelude.{◌≡◌, ℕ, false, List, [], ◌∷◌}
 use Rattle.std.specs.List.{list_any}
 use Rattle.std.specs.Str.{bytes_eq}
+use Rattle.mt_lexer.specs.Reserved.{reserved}
 use Rattle.mt_lexer.specs.Tokens.{Lexeme, Word}
-
--- the reserved words, which are no names
-unfoldable pub reserved : List (List ℕ)
-reserved =
-    codes "and" ∷ codes "as" ∷ codes "asc" ∷ codes "begin" ∷ codes "between" ∷ codes "by" ∷ codes "commit"
-    ∷ codes "count" ∷ codes "date" ∷ codes "delete" ∷ codes "desc" ∷ codes "distinct" ∷ codes "from"
-    ∷ codes "group" ∷ codes "having" ∷ codes "in" ∷ codes "inner" ∷ codes "insert" ∷ codes "integer"
-    ∷ codes "into" ∷ codes "is" ∷ codes "join" ∷ codes "key" ∷ codes "like" ∷ codes "limit" ∷ codes "max"
-    ∷ codes "min" ∷ codes "not" ∷ codes "null" ∷ codes "on" ∷ codes "or" ∷ codes "order" ∷ codes "primary"
-    ∷ codes "purge" ∷ codes "restore" ∷ codes "rollback" ∷ codes "select" ∷ codes "set" ∷ codes "sum"
-    ∷ codes "update" ∷ codes "values" ∷ codes "varchar" ∷ codes "where" ∷ []
 
 -- a word that is not reserved
 abbrev pub IsName : List Lexeme → List ℕ → Type 0

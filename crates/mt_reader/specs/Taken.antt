@@ -3,6 +3,8 @@ use Rattle.std.specs.Prelude.{◌≡◌, Bool, true, false, Option, Some, None, 
 use Rattle.mt_lexer.specs.Tokens.{Lexeme}
 use Rattle.mt_reader.specs.declared.fault.ReadFault.{ReadFault}
 use Rattle.mt_reader.specs.declared.fault.ReadFault.TheVariants as fault
+use Rattle.mt_reader.specs.declared.parse.ParseFault.{ParseFault}
+use Rattle.mt_reader.specs.declared.parse.ParseFault.TheVariants as parse
 
 -- The call took what reads, if anything did, and else stayed.
 abbrev pub Skips : Bool → List Lexeme → List Lexeme → Option (List Lexeme) → Type 0
@@ -39,3 +41,15 @@ pub record Took {X : Type 0} (inside : X → Type 0) (kept : Option X) (left : L
 abbrev pub TakesInside : {X : Type 0} → (X → Type 0) → Result (Option X) ReadFault → List Lexeme → Option (X × List Lexeme) → Type 0
 TakesInside inside (Ok kept) left read = Took inside kept left read
 TakesInside inside (Err e) left read = Fails e read
+
+-- what is not read has no reading
+abbrev pub parse_of : ReadFault → ParseFault
+parse_of fault.Unread = parse.Syntax
+parse_of fault.Memory = parse.Memory
+
+-- the whole is a tree, all of its numbers inside 64 bits
+abbrev pub Answers : {X : Type 0} → (X → Type 0) → Result X ParseFault → Option X → Type 0
+Answers inside (Ok tree) read = (read ≡ Some tree) × inside tree
+Answers {X} inside (Err parse.Literal) read = (tree : X) × (read ≡ Some tree) × (inside tree → ⊥)
+Answers inside (Err parse.Syntax) read = read ≡ None
+Answers inside (Err parse.Memory) read = Unit {0}

@@ -1,7 +1,7 @@
-ghost use Rattle.std.specs.Prelude.{◌≡◌, ◌<◌, Option, Some, List, length, IfOk};
+ghost use Rattle.std.specs.Prelude.{◌≡◌, ◌<◌, Option, Some, List, length, map, IfOk, IfSome};
 ghost use Rattle.std.specs.List.{All};
-ghost use Rattle.mt_lexer.specs.Tokens.{Lexeme, Sign};
-ghost use Rattle.mt_reader.specs.Descent.{separated_of, pushed};
+ghost use Rattle.mt_lexer.specs.Tokens.{Lexeme, Word, Sign, lower};
+ghost use Rattle.mt_reader.specs.Descent.{separated_of, maybe_of, pushed};
 ghost use Rattle.mt_reader.specs.Taken.{TakesInside};
 
 use crate::ReadFault;
@@ -21,11 +21,10 @@ pub trait Item {
 
     ghost is_inside: { Self.Tree → Type 0 };
 
-    /// Takes an item; `None` is one with a number outside 64 bits.
+    /// Takes an item, a token of it at least; `None` is one with a number outside 64 bits.
     fn take(alloc: Global, reader: &mut Reader<'_>) -> Result<Option<Self::Tree>, ReadFault>
-        ensures { TakesInside is_inside result reader.new (read reader.old) };
-
-    ghost shrinks: { (lexemes rest : List Lexeme) (item : Self.Tree) → read lexemes ≡ Some (item, rest) → length rest < length lexemes };
+        ensures taken { TakesInside is_inside result reader.new (read reader.old) }
+        ensures shrinks { IfOk result (λ _. length reader.new < length reader.old) };
 }
 
 /// A name, as an item of a list.
@@ -33,15 +32,12 @@ pub enum NameForm {}
 
 impl Item for NameForm {
     ghost use Rattle.mt_reader.specs.Descent.{name_of};
-    ghost use Rattle.mt_reader.specs.Shrinking.{name_shrinks};
 
     type Tree = Str;
 
     ghost read = { name_of };
 
     ghost is_inside = { λ _. Unit {0} };
-
-    ghost shrinks = { name_shrinks };
 
     fn take(alloc: Global, reader: &mut Reader<'_>) -> Result<Option<Str>, ReadFault> {
         Ok(Some(reader.name(alloc)?))
@@ -61,6 +57,24 @@ pub fn separated<I: Item>(
         if !reader.takes_symbol(Symbol::Comma) {
             return Ok(items);
         }
+    }
+}
+
+/// Takes an item behind this word, in any ASCII case, if the word comes next. The inner `None` is for
+/// no such word, and the outer one for a number outside 64 bits.
+pub fn optional<I: Item>(
+    alloc: Global,
+    reader: &mut Reader<'_>,
+    word: &[u8],
+) -> Result<Option<Option<I::Tree>>, ReadFault>
+    ensures { TakesInside (λ found. IfSome found I.is_inside) result reader.new (maybe_of I.read (Word (map lower word.now)) reader.old) }
+{
+    if !reader.takes_word(word) {
+        return Ok(Some(None));
+    }
+    match I::take(alloc, reader)? {
+        Some(tree) => Ok(Some(Some(tree))),
+        None => Ok(None),
     }
 }
 

@@ -7,17 +7,17 @@ mod digits;
 mod fault;
 mod item;
 mod literal;
+mod parse;
 mod piece;
 mod reader;
-mod word;
 
 pub use digits::size_of;
 pub use fault::ReadFault;
-pub use item::{Item, NameForm, pushed, separated};
+pub use item::{Item, NameForm, optional, pushed, separated};
 pub use literal::LiteralForm;
+pub use parse::ParseFault;
 pub use piece::Piece;
 pub use reader::Reader;
-pub use word::is_reserved;
 
 #[cfg(test)]
 mod tests;

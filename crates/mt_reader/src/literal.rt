@@ -4,7 +4,8 @@ ghost use Rattle.std.specs.Str.Parse.{digits_value};
 ghost use Rattle.mt_lexer.specs.Tokens.{is_digit};
 ghost use Rattle.mt_reader.specs.Pieces.{undoubled};
 ghost use Rattle.mt_reader.specs.Literals.{IsLiteralInside};
-ghost use Rattle.mt_reader.specs.Taken.{Keeps};
+ghost use Rattle.mt_reader.specs.Descent.{literal_of};
+ghost use Rattle.mt_reader.specs.Taken.{Keeps, TakesInside};
 
 use crate::ReadFault;
 use crate::digits::{integer_of, negative_of};
@@ -21,7 +22,6 @@ pub enum LiteralForm {}
 impl Item for LiteralForm {
     ghost use Rattle.mt_reader.specs.Descent.{literal_of};
     ghost use Rattle.mt_reader.specs.Literals.{IsLiteralInside};
-    ghost use Rattle.mt_reader.specs.Shrinking.{literal_shrinks};
 
     type Tree = Literal;
 
@@ -29,29 +29,34 @@ impl Item for LiteralForm {
 
     ghost is_inside = { IsLiteralInside };
 
-    ghost shrinks = { literal_shrinks };
-
     fn take(alloc: Global, reader: &mut Reader<'_>) -> Result<Option<Literal>, ReadFault> {
-        match reader.peek() {
-            Some(Piece::Word(_)) => {
-                reader.word(b"null")?;
-                Ok(Some(Literal::Null))
-            }
-            Some(Piece::Number(digits)) => {
-                reader.skip();
-                Ok(integer(digits))
-            }
-            Some(Piece::Text(bytes)) => {
-                reader.skip();
-                Ok(Some(literal_text(alloc, bytes)?))
-            }
-            Some(Piece::Symbol(_)) => {
-                reader.symbol(Symbol::Minus)?;
-                let digits = reader.number()?;
-                Ok(negative(digits))
-            }
-            None => Err(ReadFault::Unread),
+        literal(alloc, reader)
+    }
+}
+
+/// Takes a literal, by its first token.
+fn literal(alloc: Global, reader: &mut Reader<'_>) -> Result<Option<Literal>, ReadFault>
+    ensures { TakesInside IsLiteralInside result reader.new (literal_of reader.old) }
+{
+    match reader.peek() {
+        Some(Piece::Word(_)) => {
+            reader.word(b"null")?;
+            Ok(Some(Literal::Null))
         }
+        Some(Piece::Number(digits)) => {
+            reader.skip();
+            Ok(integer(digits))
+        }
+        Some(Piece::Text(bytes)) => {
+            reader.skip();
+            Ok(Some(literal_text(alloc, bytes)?))
+        }
+        Some(Piece::Symbol(_)) => {
+            reader.symbol(Symbol::Minus)?;
+            let digits = reader.number()?;
+            Ok(negative(digits))
+        }
+        None => Err(ReadFault::Unread),
     }
 }
 

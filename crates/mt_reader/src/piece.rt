@@ -3,8 +3,7 @@ ghost use Rattle.mt_lexer.specs.Tokens.{IsToken, Word, Sign, lower};
 ghost use Rattle.mt_reader.specs.Descent.{is_same};
 ghost use Rattle.mt_reader.specs.Pieces.{lexeme_at, lexeme_of, word_of, digits_of, IsPiece, undoubled};
 
-use crate::word::is_same_word;
-use mt_lexer::{Symbol, Token, TokenKind};
+use mt_lexer::{Symbol, Token, TokenKind, is_same_word};
 use std::alloc::{AllocError, Global};
 
 /// A token with the bytes that spell it.

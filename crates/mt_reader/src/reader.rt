@@ -1,4 +1,4 @@
-ghost use Rattle.std.specs.Prelude.{◌≡◌, ◌∷◌, [], map, drop, IfOk, IfSome, IfNone};
+ghost use Rattle.std.specs.Prelude.{◌≡◌, ◌∷◌, [], map, drop, is_some, IfOk, IfSome, IfNone};
 ghost use Rattle.std.specs.List.{AllPass};
 ghost use Rattle.std.specs.Str.{IsUtf8};
 ghost use Rattle.std.specs.Str.Parse.{digits_value};
@@ -9,8 +9,7 @@ ghost use Rattle.mt_reader.specs.Taken.{Skips, Takes};
 
 use crate::ReadFault;
 use crate::piece::{Piece, piece_of};
-use crate::word::is_reserved;
-use mt_lexer::{Symbol, Token};
+use mt_lexer::{Symbol, Token, is_reserved};
 use mt_value::{Str, StrFault};
 use std::alloc::{AllocError, Global};
 use std::marker::Model;
@@ -146,6 +145,16 @@ impl<'t> Reader<'t> {
         ensures { result ≡ begins_with_word self.now }
     {
         matches!(self.peek(), Some(Piece::Word(_)))
+    }
+
+    /// Whether this word, in any ASCII case, is the first piece.
+    pub fn is_at(&self, word: &[u8]) -> bool
+        ensures { result ≡ is_some (after (Word (map lower word.now)) self.now) }
+    {
+        match self.peek() {
+            Some(first) => first.is_word(word),
+            None => false,
+        }
     }
 
     /// The symbol that comes first, if one does.

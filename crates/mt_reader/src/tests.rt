@@ -1,18 +1,8 @@
-use crate::{LiteralForm, NameForm, ReadFault, Reader, is_reserved, separated};
+use crate::{LiteralForm, NameForm, ReadFault, Reader, separated};
 use mt_lexer::tokens;
 use mt_tree::Literal;
 use std::alloc::{AllocError, Global};
 use std::test::Fail;
-
-#[test]
-fn knows_reserved_words(rt: HostRuntime) {
-    for word in ["and", "SELECT", "Values", "wHERE"] {
-        assert!(rt; is_reserved(word.as_bytes()), "{word} is reserved");
-    }
-    for word in ["", "an", "create", "table", "tenant", "quota", "selects"] {
-        assert!(rt; !is_reserved(word.as_bytes()), "{word} is a name");
-    }
-}
 
 /// Literals behind names, in few words.
 fn show(out: &mut String, alloc: Global, reader: &mut Reader<'_>) -> Result<(), ReadFault> {

@@ -1,8 +1,8 @@
 -- Columns, aggregates and atoms: what is read is spelled so, and what is spelled so is read.
-use Rattle.std.proofs.Common.{◌≡◌, ℕ, ◌<◌, Bool, true, false, cond, Option, Some, None, List, [], ◌∷◌, ◌++◌, length, refl, sym, ap, ◌∙◌, subst, append_assoc, length-append, inl, inr, arith}
+use Rattle.std.proofs.Common.{◌≡◌, ℕ, ◌<◌, Bool, true, false, cond, Option, Some, None, List, [], ◌∷◌, ◌++◌, length, refl, sym, ap, ◌∙◌, subst, append_assoc, inl, inr, arith}
 use Rattle.std.specs.Prelude.{codes}
 use Rattle.mt_lexer.specs.declared.token.Symbol.TheVariants as symbol
-use Rattle.mt_lexer.specs.Tokens.{Lexeme, Word, Number, Quoted, Sign}
+use Rattle.mt_lexer.specs.Tokens.{Lexeme, Word, Sign}
 use Rattle.mt_tree.specs.declared.name.ColName.{ColName}
 use Rattle.mt_tree.specs.declared.expression.Literal.{Literal}
 use Rattle.mt_tree.specs.declared.expression.Literal.TheVariants as literal
@@ -14,10 +14,10 @@ use Rattle.mt_reader.specs.Descent.{after, name_of, number_of, literal_of, is_re
 use Rattle.mt_reader.specs.Forms.{Bracketed}
 use Rattle.mt_reader.specs.Fronts.{Begins}
 use Rattle.mt_reader.specs.Literals.{SpellsLiteral}
-use Rattle.mt_reader.specs.Names.{reserved}
-use Rattle.mt_reader.specs.Shrinking.{bind_some, same_tree, same_rest}
-use Rattle.mt_reader.proofs.Parts.{literal_sound, literal_complete}
-use Rattle.mt_reader.proofs.Spelling.{IsSound, IsComplete, IsCompleteBefore, after_is, name_is}
+use Rattle.mt_lexer.specs.Reserved.{reserved}
+use Rattle.mt_reader.proofs.Shrinking.{bind_some, same_tree, same_rest}
+use Rattle.mt_reader.proofs.Parts.{literal_sound}
+use Rattle.mt_reader.proofs.Spelling.{IsSound, IsComplete, IsCompleteBefore, after_is, name_is, Shrinks, sound_shrinks}
 use Rattle.mt_terms.specs.Expression.{SpellsNamed, SpellsColumn, Called, SpellsAgg, SpellsAtom}
 use Rattle.mt_terms.specs.Descent.{column_of, column_behind, argument_of, called_of, counted_of, counted_behind, min_behind, sum_behind, count_behind, agg_of, null_behind, reserved_atom_of, column_atom_of, literal_atom_of, atom_of}
 
@@ -297,13 +297,23 @@ atom_complete front more (atom.Agg found) end s =
     let all : front ++ more ≡ Word b.word ∷ (b.back ++ more) = ap (λ ls. ls ++ more) b.split in
     ap atom_of all ∙ agg_atom_complete b.word (b.back ++ more) more found b.is_reserved (b.no_null (b.back ++ more)) (ap agg_of (sym all) ∙ agg_complete front more found s)
 
+-- a column has a lexeme at least
+named_nonempty : (front : List Lexeme) (qualifier : Option (List ℕ)) (name : List ℕ) → SpellsNamed front qualifier name → 0 < length front
+named_nonempty front None name s = omega (arith, ap length s.0)
+named_nonempty front (Some qualifier) name s = omega (arith, ap length (dotted_is front qualifier name s))
+
+-- and so it takes one
+pub column_shrinks : Shrinks column_of
+column_shrinks = sound_shrinks SpellsColumn column_of column_sound (λ front column s. named_nonempty front column.qualifier column.name s)
+
 -- an atom has a lexeme at least
 pub atom_nonempty : (front : List Lexeme) (found : Atom) → SpellsAtom front found → 0 < length front
-atom_nonempty front (atom.Column column) s = named_nonempty column.qualifier column.name s where
-  named_nonempty : (qualifier : Option (List ℕ)) (name : List ℕ) → SpellsNamed front qualifier name → 0 < length front
-  named_nonempty None name s = omega (arith, ap length s.0)
-  named_nonempty (Some qualifier) name s = omega (arith, ap length (dotted_is front qualifier name s))
+atom_nonempty front (atom.Column column) s = named_nonempty front column.qualifier column.name s
 atom_nonempty front (atom.Literal literal.Null) s = omega (arith, ap length s)
 atom_nonempty front (atom.Literal (literal.Int z)) s = elim s.1 [ inl w ↦ omega (arith, ap length w.0) | inr w ↦ omega (arith, ap length w.0) ]
 atom_nonempty front (atom.Literal (literal.Text text)) s = omega (arith, ap length s)
 atom_nonempty front (atom.Agg found) s = let b = agg_begins front found s in omega (arith, ap length b.split)
+
+-- and so it takes one
+pub atom_shrinks : Shrinks atom_of
+atom_shrinks = sound_shrinks SpellsAtom atom_of atom_sound atom_nonempty

@@ -1,5 +1,5 @@
 -- Conditions: what is read is spelled so, and what is spelled so is read.
-use Rattle.std.proofs.Common.{◌≡◌, ◌⊎◌, ℕ, zero, suc, ◌<◌, true, Option, Some, None, List, [], ◌∷◌, ◌++◌, length, refl, sym, ap, ◌∙◌, subst, append_assoc, length-append, inl, inr, arith}
+use Rattle.std.proofs.Common.{◌≡◌, ℕ, zero, suc, ◌<◌, Option, Some, None, List, [], ◌∷◌, ◌++◌, length, refl, sym, ap, ◌∙◌, subst, append_assoc, length-append, inl, inr, arith}
 use Rattle.std.specs.Option.{option_and_then}
 use Rattle.std.specs.Prelude.{codes}
 use Rattle.mt_lexer.specs.declared.token.Symbol.TheVariants as symbol
@@ -8,15 +8,15 @@ use Rattle.mt_tree.specs.declared.expression.Atom.{Atom}
 use Rattle.mt_tree.specs.declared.expression.Cond.{Cond}
 use Rattle.mt_tree.specs.declared.expression.Cond.TheVariants as cond
 use Rattle.mt_reader.specs.Descent.{after, literal_of}
-use Rattle.mt_reader.specs.Forms.{Form, Bracketed, Behind, Joined}
+use Rattle.mt_reader.specs.Forms.{Form, Joined}
 use Rattle.mt_reader.specs.Fronts.{Begins}
-use Rattle.mt_reader.specs.Names.{reserved}
-use Rattle.mt_reader.specs.Shrinking.{bind_some, same_tree, same_rest}
+use Rattle.mt_lexer.specs.Reserved.{reserved}
+use Rattle.mt_reader.proofs.Shrinking.{bind_some, same_tree, same_rest}
 use Rattle.mt_reader.proofs.Joining.{joined_sound, joined_complete_before}
 use Rattle.mt_reader.proofs.Spelling.{IsSound, IsCompleteBefore, Shrinks, sound_shrinks, separated_nonempty, after_is}
 use Rattle.mt_terms.specs.declared.test.Test.{Test}
 use Rattle.mt_terms.specs.declared.test.Test.TheVariants as test
-use Rattle.mt_terms.specs.Condition.{AtomThen, SpellsPlain, SpellsNegated, SpellsOr, SpellsNeg, SpellsCond}
+use Rattle.mt_terms.specs.Condition.{AtomThen, SpellsPlain, SpellsOr, SpellsNeg, SpellsCond}
 use Rattle.mt_terms.specs.Expression.{SpellsAtom}
 use Rattle.mt_terms.specs.Descent.{atom_of, literal_atom_of, reserved_atom_of, agg_of, test_of, cond_with, plain_of, and_of, or_of, open_behind, neg_behind, neg_of, cond_of}
 use Rattle.mt_terms.proofs.Atoms.{NoDot, atom_sound, atom_complete, atom_nonempty}

@@ -1,5 +1,5 @@
 -- Expressions: what is read is spelled so, and what is spelled so is read.
-use Rattle.std.proofs.Common.{◌≡◌, ℕ, zero, suc, ◌-◌, ◌<◌, ◌≤◌, Bool, true, false, Option, Some, None, List, [], ◌∷◌, ◌++◌, length, refl, sym, ap, ◌∙◌, subst, append_assoc, append-nil, length-append, inl, inr, arith}
+use Rattle.std.proofs.Common.{◌≡◌, ℕ, zero, suc, ◌<◌, ◌≤◌, Bool, true, false, Option, Some, None, List, [], ◌∷◌, ◌++◌, length, refl, sym, ap, ◌∙◌, subst, append_assoc, append-nil, length-append, inl, inr, arith}
 use Rattle.std.specs.Option.{option_and_then}
 use Rattle.mt_lexer.specs.declared.token.Symbol.TheVariants as symbol
 use Rattle.mt_lexer.specs.Tokens.{Lexeme, Sign}
@@ -7,13 +7,13 @@ use Rattle.mt_tree.specs.declared.expression.Atom.{Atom}
 use Rattle.mt_tree.specs.declared.expression.Expr.{Expr}
 use Rattle.mt_tree.specs.declared.expression.Expr.TheVariants as expr
 use Rattle.mt_tree.specs.declared.expression.Term.{Term}
-use Rattle.mt_reader.specs.Descent.{after, begins_with_name, begins_with_word, name_of, number_of, literal_of, with_front}
+use Rattle.mt_reader.specs.Descent.{after, literal_of, with_front}
 use Rattle.mt_reader.specs.Forms.{Form, Bracketed}
 use Rattle.mt_reader.specs.Fronts.{Begins}
-use Rattle.mt_reader.specs.Shrinking.{bind_some, same_tree, same_rest}
+use Rattle.mt_reader.proofs.Shrinking.{bind_some, same_tree, same_rest}
 use Rattle.mt_reader.proofs.Joining.{joined_sound, joined_complete_before}
 use Rattle.mt_reader.proofs.Spelling.{IsSound, IsCompleteBefore, Shrinks, sound_shrinks, separated_nonempty, after_is}
-use Rattle.mt_terms.specs.Expression.{SpellsAtom, SpellsAtomAlone, SpellsTerm, sign_of as sign_lexeme, SpellsTail, IsSum, SpellsSum, SpellsFactor, SpellsExpr}
+use Rattle.mt_terms.specs.Expression.{SpellsAtomAlone, SpellsTerm, sign_of as sign_lexeme, SpellsTail, SpellsSum, SpellsFactor, SpellsExpr}
 use Rattle.mt_terms.specs.Descent.{atom_of, literal_atom_of, alone_of, term_of, sign_of, tail_of, tail_behind, terms_of, sum_tree, sum_of, factor_behind, factor_of, expr_of}
 use Rattle.mt_terms.proofs.Atoms.{NoDot, atom_sound, atom_complete, atom_nonempty}
 use Rattle.mt_terms.proofs.Tails.{sign_is, tail_of-sign, tail_of-end}

@@ -10,7 +10,7 @@ use Rattle.mt_tree.specs.declared.expression.Atom.{Atom}
 use Rattle.mt_tree.specs.declared.expression.Expr.{Expr}
 use Rattle.mt_tree.specs.declared.expression.Expr.TheVariants as expr
 use Rattle.mt_tree.specs.declared.expression.Expr.TheVariants.{rolls-Atom, rolls-Sum, rolls-Product}
-use Rattle.mt_tree.specs.declared.expression.Expr.TheOpen.{Expr-F, Term-F}
+use Rattle.mt_tree.specs.declared.expression.Expr.TheOpen.{Expr-F}
 use Rattle.mt_tree.specs.declared.expression.Expr.TheFolds.{fold-Expr, fold-Term, fold-roll-Expr, fold_out-Term}
 use Rattle.mt_tree.specs.declared.expression.Term.{Term}
 use Rattle.mt_tree.specs.declared.expression.Cond.{Cond}

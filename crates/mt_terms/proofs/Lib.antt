@@ -7,3 +7,4 @@ pub mod Levels
 pub mod Predicates
 pub mod Steps
 pub mod Tails
+pub mod Decided

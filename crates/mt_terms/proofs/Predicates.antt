@@ -1,6 +1,5 @@
 -- What a predicate says of its first atom: what is read is spelled so, and what is spelled so is read.
-use Rattle.std.proofs.Common.{◌≡◌, ◌⊎◌, ℕ, Bool, true, false, Option, Some, None, List, [], ◌∷◌, ◌++◌, drop, refl, sym, ap, ◌∙◌, subst, append_assoc, inl, inr}
-use Rattle.std.specs.Option.{option_and_then}
+use Rattle.std.proofs.Common.{◌≡◌, ℕ, Bool, true, false, Option, Some, None, List, [], ◌∷◌, ◌++◌, drop, refl, sym, ap, ◌∙◌, subst, append_assoc}
 use Rattle.std.specs.Prelude.{codes}
 use Rattle.mt_lexer.specs.declared.token.Symbol.{Symbol}
 use Rattle.mt_lexer.specs.declared.token.Symbol.TheVariants as symbol
@@ -11,15 +10,14 @@ use Rattle.mt_tree.specs.declared.expression.Atom.{Atom}
 use Rattle.mt_reader.specs.Descent.{after, first_symbol, separated_of}
 use Rattle.mt_reader.specs.Forms.{Separated, Bracketed, Behind}
 use Rattle.mt_reader.specs.Fronts.{Begins}
-use Rattle.mt_reader.specs.Shrinking.{bind_some, same_tree, same_rest}
+use Rattle.mt_reader.proofs.Shrinking.{bind_some, same_tree, same_rest}
 use Rattle.mt_reader.proofs.Spelling.{IsSound, IsCompleteBefore, after_is, separated_sound, separated_complete_before}
 use Rattle.mt_terms.specs.declared.test.Test.{Test}
 use Rattle.mt_terms.specs.declared.test.Test.TheVariants as test
 use Rattle.mt_terms.specs.Condition.{symbol_of, SpellsNot, AtomThen, NotThen, WordThen}
 use Rattle.mt_terms.specs.Expression.{SpellsAtom}
 use Rattle.mt_terms.specs.Descent.{atom_of, cmp_of, compare_of, member_of, between_of, like_of, between_behind, in_behind, worded_of, null_of, not_null_behind, tested_of, not_behind, is_behind, compare_behind, test_of}
-use Rattle.mt_terms.specs.Shrinking.{atom_shrinks}
-use Rattle.mt_terms.proofs.Atoms.{NoDot, atom_sound, atom_complete}
+use Rattle.mt_terms.proofs.Atoms.{NoDot, atom_sound, atom_complete, atom_shrinks}
 
 -- what stands behind the first atom of a predicate
 abbrev pub SpellsTest : List Lexeme → Test → Type 0

@@ -11,7 +11,7 @@ use Rattle.mt_reader.specs.declared.fault.ReadFault.{ReadFault}
 use Rattle.mt_reader.specs.declared.fault.ReadFault.TheVariants as fault
 use Rattle.mt_reader.specs.Descent.{after, with_front, pushed}
 use Rattle.mt_reader.specs.Taken.{Keeps, Took, Fails}
-use Rattle.mt_reader.specs.Shrinking.{same_tree, same_rest}
+use Rattle.mt_reader.proofs.Shrinking.{same_tree, same_rest}
 use Rattle.mt_reader.proofs.Lists.{keeps_pushed, with_front-append}
 use Rattle.mt_reader.proofs.Literals.{fails_bind}
 use Rattle.mt_reader.proofs.Spelling.{after_is}

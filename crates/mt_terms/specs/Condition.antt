@@ -1,8 +1,8 @@
 -- Conditions. Brackets and NOT nest, and a depth counts both.
-use Rattle.std.specs.Prelude.{◌≡◌, ◌⊎◌, ℕ, zero, suc, Bool, true, false, List, [], ◌∷◌, ◌++◌, codes}
-use Rattle.mt_lexer.specs.Tokens.{Lexeme, Word, Number, Quoted, Sign}
+use Rattle.std.specs.Prelude.{◌≡◌, ◌⊎◌, ℕ, zero, suc, Bool, List, [], ◌∷◌, codes}
+use Rattle.mt_lexer.specs.Tokens.{Lexeme, Word, Sign}
 use Rattle.mt_lexer.specs.declared.token.Symbol.{Symbol}
-use Rattle.mt_lexer.specs.declared.token.Symbol.TheVariants.{Open, Close, Comma, Equal, NotEqual, Less, LessEqual, Greater, GreaterEqual}
+use Rattle.mt_lexer.specs.declared.token.Symbol.TheVariants.{Comma, Equal, NotEqual, Less, LessEqual, Greater, GreaterEqual}
 use Rattle.mt_value.specs.declared.truth.Cmp.{Cmp}
 use Rattle.mt_value.specs.declared.truth.Cmp.TheVariants.{Eq, Ne, Lt, Le, Gt, Ge}
 use Rattle.mt_tree.specs.declared.expression.Atom.{Atom}

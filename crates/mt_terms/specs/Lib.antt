@@ -3,4 +3,3 @@ pub mod Descent
 pub mod Expression
 pub mod Follow
 pub mod Inside
-pub mod Shrinking

@@ -52,24 +52,3 @@ fn literal_atom(alloc: Global, reader: &mut Reader<'_>) -> Result<Option<Atom>, 
     let literal = LiteralForm::take(alloc, reader)?;
     Ok(literal.map(Atom::Literal))
 }
-
-/// An atom, as an item of a list.
-pub enum AtomForm {}
-
-impl Item for AtomForm {
-    ghost use Rattle.mt_terms.specs.Descent.{atom_of};
-    ghost use Rattle.mt_terms.specs.Inside.{IsAtomInside};
-    ghost use Rattle.mt_terms.specs.Shrinking.{atom_shrinks};
-
-    type Tree = Atom;
-
-    ghost read = { atom_of };
-
-    ghost is_inside = { IsAtomInside };
-
-    ghost shrinks = { atom_shrinks };
-
-    fn take(alloc: Global, reader: &mut Reader<'_>) -> Result<Option<Atom>, ReadFault> {
-        atom(alloc, reader)
-    }
-}

@@ -4,6 +4,7 @@
 //! the stack.
 #![tactic(auto)]
 
+mod form;
 mod function;
 mod laws;
 mod leaf;
@@ -15,8 +16,8 @@ mod read;
 mod sum;
 mod test;
 
+pub use form::{AtomForm, ColumnForm, ConditionForm, ExpressionForm};
 pub use laws::terms_are_determined;
-pub use leaf::AtomForm;
 pub use read::{read_aggregate, read_atom, read_column, read_condition, read_expression};
 
 #[cfg(test)]

@@ -3,7 +3,8 @@ ghost use Rattle.mt_reader.specs.Taken.{TakesAny, TakesInside};
 ghost use Rattle.mt_terms.specs.Descent.{cmp_of, compare_of, test_of, tested_of, worded_of, member_of, between_of, like_of, both};
 ghost use Rattle.mt_terms.specs.Inside.{IsTestInside};
 
-use crate::leaf::{AtomForm, atom};
+use crate::form::AtomForm;
+use crate::leaf::atom;
 use mt_lexer::Symbol;
 use mt_list::List;
 use mt_reader::{ReadFault, Reader, separated};

@@ -16,7 +16,7 @@ mod who;
 pub use code::Code;
 pub use command::{AdminCmd, ChunkText, Def, DefKind, FoldText};
 pub use expression::{Agg, Atom, Cond, Expr, Literal, Term};
-pub use name::{ColName, Names};
+pub use name::{ColName, Names, is_name};
 pub use reply::{Reply, ReplyText};
 pub use schema::{Column, Columns, Kind, Schema, Table};
 pub use simple::{SimpleCmd, SimpleDef, SimpleStmt};

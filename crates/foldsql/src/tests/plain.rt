@@ -64,6 +64,15 @@ fn serves_a_tenant(rt: HostRuntime) -> Result<(), Fail> {
         ("@2 SELECT a FROM t", "error E03 unknown tenant\n"),
         ("@1 SELECT c FROM t", "error E12 unknown column\n"),
         ("@1 DELETE FROM t", "error E09 not served here\n"),
+        ("@1 BEGIN", "error E10 syntax\n"),
+        (
+            "@1 SELECT aid FROM account WHERE beds < -9223372036854775808",
+            "error E09 not served here\n",
+        ),
+        (
+            "@1 SELECT aid FROM account WHERE beds < -9223372036854775809",
+            "error E16 number outside 64 bits\n",
+        ),
     ];
     check(&rt, rt.alloc(), &lines)
 }
@@ -111,7 +120,7 @@ fn refuses_lines(rt: HostRuntime) -> Result<(), Fail> {
         (b"@17x SELECT a FROM t", unreadable),
         (
             b"@admin CREATE TABLE a234567890123456789012345678901 (a INTEGER)",
-            "error E09 not served here\n",
+            "error E10 syntax\n",
         ),
         (
             b"@admin CREATE TABLE t (a INTEGER, A INTEGER)",

@@ -3,4 +3,4 @@ use Rattle.mt_model.proofs.OneRequest.{IsRequest-determined}
 use Rattle.mt_model.proofs.laws.each_line_says_one_thing.Goals as goal
 
 pub returns : goal.returns
-returns c = IsRequest-determined c.simple_readings_are_determined.ensures.statement c.simple_readings_are_determined.ensures.command
+returns c = IsRequest-determined c.statements_are_determined.ensures c.commands_are_determined.ensures

@@ -1,10 +1,10 @@
 -- A condition by its first lexeme, and members as far as there are separators.
-use Rattle.std.proofs.Common.{length, arith}
+use Rattle.std.proofs.Common.{arith}
 use Rattle.std.specs.Prelude.{codes}
 use Rattle.std.proofs.lemmas.Result.{err_from_is_err_and}
 use Rattle.mt_lexer.specs.Tokens.{Word}
 use Rattle.mt_tree.specs.declared.expression.Cond.TheVariants as cond
-use Rattle.mt_reader.specs.Shrinking.{after_shrinks}
+use Rattle.mt_reader.proofs.Shrinking.{after_shrinks}
 use Rattle.mt_reader.proofs.Joining.{joined_took, joined_fails}
 use Rattle.mt_reader.proofs.Lists.{so_far_none, so_far_more, so_far_all, so_far_fault}
 use Rattle.mt_terms.specs.Descent.{and_of, or_of, neg_of}

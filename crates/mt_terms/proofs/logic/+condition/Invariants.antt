@@ -1,5 +1,5 @@
 -- Each NOT and each bracket takes one of the depth, and each iteration a lexeme.
-use Rattle.std.proofs.Common.{ℕ, ◌+◌, ◌*◌, length}
+use Rattle.std.proofs.Common.{◌+◌, ◌*◌, length}
 use Rattle.std.specs.Prelude.{codes}
 use Rattle.mt_lexer.specs.Tokens.{Word}
 use Rattle.mt_reader.specs.Descent.{separated_of}

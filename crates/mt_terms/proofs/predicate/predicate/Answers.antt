@@ -1,8 +1,6 @@
 -- Both parts are read, and kept.
-use Rattle.std.proofs.Common.{refl, ap, ◌∙◌}
-use Rattle.std.proofs.lemmas.Result.{err_from_is_err_and}
-use Rattle.mt_reader.proofs.Literals.{fails_bind}
-use Rattle.mt_terms.specs.Descent.{plain_of, test_of, cond_with}
+use Rattle.std.proofs.Common.{refl}
+use Rattle.mt_terms.specs.Descent.{plain_of, cond_with}
 use Rattle.mt_terms.proofs.Inside.{keeps_with}
 use Rattle.mt_terms.proofs.predicate.predicate.Goals as goal
 

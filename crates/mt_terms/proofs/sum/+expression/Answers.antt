@@ -4,8 +4,7 @@ use Rattle.std.proofs.lemmas.Result.{err_from_is_err_and}
 use Rattle.mt_lexer.specs.Tokens.{Sign}
 use Rattle.mt_lexer.specs.declared.token.Symbol.TheVariants.{Star}
 use Rattle.mt_reader.specs.Descent.{pushed}
-use Rattle.mt_reader.specs.Shrinking.{after_shrinks}
-use Rattle.mt_reader.specs.Taken.{TakesInside}
+use Rattle.mt_reader.proofs.Shrinking.{after_shrinks}
 use Rattle.mt_reader.proofs.Lists.{so_far_none, so_far_more, so_far_all, so_far_fault}
 use Rattle.mt_terms.specs.Descent.{factor_of, term_of, terms_of}
 use Rattle.mt_terms.specs.Inside.{IsExprInside, IsTermInside}

@@ -1,5 +1,5 @@
 -- Each bracket takes one of the depth, and each iteration a lexeme.
-use Rattle.std.proofs.Common.{ℕ, ◌+◌, ◌*◌, length}
+use Rattle.std.proofs.Common.{◌+◌, ◌*◌, length}
 use Rattle.mt_lexer.specs.Tokens.{Sign}
 use Rattle.mt_lexer.specs.declared.token.Symbol.TheVariants.{Star}
 use Rattle.mt_reader.specs.Descent.{separated_of}

@@ -1,7 +1,7 @@
 -- A line that spells the command asks for its tenant, and any other is not served.
 use Rattle.std.proofs.Common.{inl, refl}
 use Rattle.mt_tree.specs.declared.simple.SimpleCmd.TheVariants.{CreateTenant}
-use Rattle.mt_grammar.specs.Reading.{Says, Unserved}
+use Rattle.mt_model.specs.Said.{Says, Unserved}
 use Rattle.mt_model.specs.Request.{Command}
 use Rattle.foldsql.proofs.tenants.TenantsEngine.line.Goals as goal
 

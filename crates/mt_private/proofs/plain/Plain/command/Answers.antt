@@ -1,5 +1,5 @@
 -- The text says something, also where there was not memory enough to read it.
-use Rattle.mt_grammar.specs.Reading.{Says}
+use Rattle.mt_model.specs.Said.{Says}
 use Rattle.mt_tree.specs.declared.simple.SimpleCmd.TheVariants.{CreateTable, CreateTenant}
 use Rattle.mt_private.proofs.Steps.{command-forgone}
 use Rattle.mt_private.proofs.plain.Plain.command.Goals as goal

@@ -3,8 +3,7 @@ use Rattle.std.proofs.Common.{◌≡◌, ℕ, List, drop, subst, ◌∙◌}
 use Rattle.std.proofs.lemmas.List.{take_rest}
 use Rattle.mt_tree.specs.declared.who.Who.{Who}
 use Rattle.mt_script.specs.Tags.{HasTag}
-use Rattle.mt_grammar.specs.Reading.{IsSaid}
-use Rattle.mt_grammar.specs.Simple.{SpellsStatement, IsInside, SpellsCommand, IsCommandInside}
+use Rattle.mt_model.specs.Said.{IsStatementSaid, IsCommandSaid}
 use Rattle.mt_model.specs.Request.{Statement, Command}
 use Rattle.mt_private.proofs.plain.Plain.line.Goals as goal
 
@@ -20,7 +19,7 @@ returns-in-Admin c =
         said = record {
           text = drop c.in-Some.tagged.from c.args.line.now;
           tagged = subst (λ (who : Who). HasTag c.args.line.now who (drop c.in-Some.tagged.from c.args.line.now)) c.in-Admin.is c.in-Some.ensures.found.1;
-          says = subst (λ (text : List ℕ). IsSaid SpellsCommand IsCommandInside text says.0) text says.1;
+          says = subst (λ (text : List ℕ). IsCommandSaid text says.0) text says.1;
         };
         outcome = says.2;
       },
@@ -35,7 +34,7 @@ returns-in-Tenant c =
         said = record {
           text = drop c.in-Some.tagged.from c.args.line.now;
           tagged = subst (λ (who : Who). HasTag c.args.line.now who (drop c.in-Some.tagged.from c.args.line.now)) c.in-Tenant.is c.in-Some.ensures.found.1;
-          says = subst (λ (text : List ℕ). IsSaid SpellsStatement IsInside text says.0) text says.1;
+          says = subst (λ (text : List ℕ). IsStatementSaid text says.0) text says.1;
         };
         outcome = says.2;
       },

@@ -1,0 +1,10 @@
+pub mod Bodies
+pub mod Commands
+pub mod Definitions
+pub mod Eithers
+pub mod Folds
+pub mod Follow
+pub mod Loops
+pub mod Explained
+pub mod Insides
+pub mod Examples

@@ -1,0 +1,5 @@
+pub mod Body
+pub mod Command
+pub mod Descent
+pub mod Inside
+pub mod Plain

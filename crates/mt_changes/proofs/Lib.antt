@@ -1,0 +1,6 @@
+pub mod Assignments
+pub mod Changes
+pub mod Counted
+pub mod Filters
+pub mod Inserts
+pub mod Examples

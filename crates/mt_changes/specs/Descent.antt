@@ -1,0 +1,114 @@
+-- The forms as functions, which read lexemes from the left: the tree, and the lexemes behind it.
+use Rattle.std.specs.Prelude.{ℕ, nat_le, if◌then◌else◌, Option, Some, None, List, [], length, codes}
+use Rattle.mt_lexer.specs.declared.token.Symbol.TheVariants as symbol
+use Rattle.mt_lexer.specs.Tokens.{Lexeme, Word, Sign}
+use Rattle.mt_tree.specs.declared.expression.Expr.{Expr}
+use Rattle.mt_tree.specs.declared.expression.Literal.{Literal}
+use Rattle.mt_tree.specs.declared.statement.Filter.{Filter}
+use Rattle.mt_tree.specs.declared.statement.SetItem.{SetItem}
+use Rattle.mt_tree.specs.declared.statement.Stmt.{Stmt}
+use Rattle.mt_tree.specs.declared.statement.Stmt.TheVariants as stmt
+use Rattle.mt_reader.specs.Descent.{◌>>=◌, after, name_of, literal_of, separated_of, maybe_of}
+use Rattle.mt_terms.specs.Descent.{expr_of, cond_of}
+
+-- a table, and perhaps a condition
+unfoldable pub filter_of : List Lexeme → Option (Filter × List Lexeme)
+filter_of lexemes = do
+  table ← name_of lexemes
+  cond ← maybe_of cond_of (Word (codes "where")) table.1
+  Some (record { table = table.0; cond = cond.0 }, cond.1)
+
+-- the assignment of this to a column
+abbrev pub assigned : List ℕ → Expr → SetItem
+assigned column expr = record { column = column; expr = expr }
+
+-- a column, the sign, and its new value
+unfoldable pub set_of : List Lexeme → Option (SetItem × List Lexeme)
+set_of lexemes = do
+  column ← name_of lexemes
+  equal ← after (Sign symbol.Equal) column.1
+  value ← expr_of equal
+  Some (assigned column.0 value.0, value.1)
+
+-- behind UPDATE
+unfoldable pub update_of : List Lexeme → Option (Stmt × List Lexeme)
+update_of lexemes = do
+  table ← name_of lexemes
+  set ← after (Word (codes "set")) table.1
+  sets ← separated_of set_of (Sign symbol.Comma) set
+  cond ← maybe_of cond_of (Word (codes "where")) sets.1
+  Some (stmt.Update (record { table = table.0; sets = sets.0; cond = cond.0 }), cond.1)
+
+-- literals in brackets
+unfoldable pub tuple_of : List Lexeme → Option (List Literal × List Lexeme)
+tuple_of lexemes = do
+  open_ ← after (Sign symbol.Open) lexemes
+  values ← separated_of literal_of (Sign symbol.Comma) open_
+  close ← after (Sign symbol.Close) values.1
+  Some (values.0, close)
+
+-- a list with so many members at most
+abbrev pub at_most : {X : Type 0} → ℕ → Option (List X × List Lexeme) → Option (List X × List Lexeme)
+at_most limit read = do
+  items ← read
+  if nat_le (length items.0) limit then Some items else None
+
+-- so many tuples at most
+unfoldable pub few_tuples_of : ℕ → List Lexeme → Option (List (List Literal) × List Lexeme)
+few_tuples_of limit lexemes = at_most limit (separated_of tuple_of (Sign symbol.Comma) lexemes)
+
+-- names in brackets, where a bracket opens
+abbrev pub columns_behind : Option (List Lexeme) → List Lexeme → Option (List (List ℕ) × List Lexeme)
+columns_behind None lexemes = Some ([], lexemes)
+columns_behind (Some open_) lexemes = do
+  names ← separated_of name_of (Sign symbol.Comma) open_
+  close ← after (Sign symbol.Close) names.1
+  Some (names.0, close)
+
+-- perhaps names in brackets
+unfoldable pub columns_of : List Lexeme → Option (List (List ℕ) × List Lexeme)
+columns_of lexemes = columns_behind (after (Sign symbol.Open) lexemes) lexemes
+
+-- behind INSERT
+unfoldable pub insert_of : List Lexeme → Option (Stmt × List Lexeme)
+insert_of lexemes = do
+  into ← after (Word (codes "into")) lexemes
+  table ← name_of into
+  columns ← columns_of table.1
+  values ← after (Word (codes "values")) columns.1
+  tuples ← few_tuples_of 1000 values
+  Some (stmt.Insert (record { table = table.0; columns = columns.0; tuples = tuples.0 }), tuples.1)
+
+-- a statement that says this of a filter
+abbrev pub filtered_of : (Filter → Stmt) → List Lexeme → Option (Stmt × List Lexeme)
+filtered_of change lexemes = do
+  filter ← filter_of lexemes
+  Some (change filter.0, filter.1)
+
+-- where there is no RESTORE, a PURGE
+abbrev pub restore_behind : Option (List Lexeme) → List Lexeme → Option (Stmt × List Lexeme)
+restore_behind (Some rest) lexemes = filtered_of stmt.Restore rest
+restore_behind None lexemes = do
+  rest ← after (Word (codes "purge")) lexemes
+  filtered_of stmt.Purge rest
+
+-- where there is no DELETE, one of the others
+abbrev pub delete_behind : Option (List Lexeme) → List Lexeme → Option (Stmt × List Lexeme)
+delete_behind (Some rest) lexemes = do
+  from ← after (Word (codes "from")) rest
+  filtered_of stmt.Delete from
+delete_behind None lexemes = restore_behind (after (Word (codes "restore")) lexemes) lexemes
+
+-- where there is no UPDATE, one of the others
+abbrev pub update_behind : Option (List Lexeme) → List Lexeme → Option (Stmt × List Lexeme)
+update_behind (Some rest) lexemes = update_of rest
+update_behind None lexemes = delete_behind (after (Word (codes "delete")) lexemes) lexemes
+
+-- where there is no INSERT, one of the others
+abbrev pub insert_behind : Option (List Lexeme) → List Lexeme → Option (Stmt × List Lexeme)
+insert_behind (Some rest) lexemes = insert_of rest
+insert_behind None lexemes = update_behind (after (Word (codes "update")) lexemes) lexemes
+
+-- a statement that changes rows
+unfoldable pub change_of : List Lexeme → Option (Stmt × List Lexeme)
+change_of lexemes = insert_behind (after (Word (codes "insert")) lexemes) lexemes

@@ -1,0 +1,19 @@
+-- The statements of a tenant, over the tokens of a text.
+use Rattle.std.specs.Prelude.{List}
+use Rattle.mt_lexer.specs.Tokens.{Lexeme}
+use Rattle.mt_tree.specs.declared.statement.Stmt.{Stmt}
+use Rattle.mt_tree.specs.declared.statement.Stmt.TheVariants as stmt
+use Rattle.mt_query.specs.Query.{SpellsSelect}
+use Rattle.mt_query.specs.Inside.{IsSelectInside}
+use Rattle.mt_changes.specs.Change.{SpellsChange}
+use Rattle.mt_changes.specs.Inside.{IsChangeInside}
+
+-- select | insert | update | delete | restore | purge
+unfoldable pub SpellsStmt : List Lexeme → Stmt → Type 0
+SpellsStmt tokens (stmt.Select select) = SpellsSelect tokens select
+SpellsStmt tokens other = SpellsChange tokens other
+
+-- each number of a statement is inside 64 bits
+unfoldable pub IsStmtInside : Stmt → Type 0
+IsStmtInside (stmt.Select select) = IsSelectInside select
+IsStmtInside other = IsChangeInside other

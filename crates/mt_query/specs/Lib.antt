@@ -1,0 +1,4 @@
+pub mod Descent
+pub mod Inside
+pub mod Query
+pub mod Within

@@ -1,0 +1,11 @@
+pub mod PrintLevels
+pub mod PrintSteps
+pub mod ShownAtoms
+pub mod ShownChanges
+pub mod ShownConditions
+pub mod ShownExpressions
+pub mod ShownForms
+pub mod ShownLevels
+pub mod ShownParts
+pub mod ShownSelect
+pub mod Examples

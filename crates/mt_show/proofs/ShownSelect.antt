@@ -1,0 +1,64 @@
+-- A SELECT is shown by tokens that spell it.
+use Rattle.std.proofs.Common.{List, [], ◌∷◌, ◌++◌, refl, codes}
+use Rattle.std.proofs.lemmas.List.Elements.{All-cons, All-tail, All-append}
+use Rattle.std.specs.List.{All}
+use Rattle.mt_lexer.specs.Tokens.{Lexeme, Word}
+use Rattle.mt_query.specs.Query.{SpellsSelect}
+use Rattle.mt_query.specs.Inside.{IsSelectInside}
+use Rattle.mt_printer.specs.Text.{IsWritten, IsPrintable}
+use Rattle.mt_show.specs.Statements.{clause_tokens, items_tokens, refs_tokens, group_tokens, order_tokens, limit_tokens, distinct_tokens, select_tokens}
+use Rattle.mt_show.proofs.ShownForms.{Shows, All-both, All-behind, printable_between}
+use Rattle.mt_show.proofs.ShownAtoms.{keyword}
+use Rattle.mt_show.proofs.ShownParts.{clause_gives, distinct_gives, items_show, refs_show, group_gives, order_gives, limit_gives}
+
+-- where each part can be printed, the whole can
+printable_parts : (distinct items refs condition group having order limit : List Lexeme) → All IsPrintable distinct → All IsPrintable items → All IsPrintable refs → All IsPrintable condition → All IsPrintable group → All IsPrintable having → All IsPrintable order → All IsPrintable limit → All IsPrintable (Word (codes "select") ∷ (distinct ++ items ++ Word (codes "from") ∷ (refs ++ condition ++ group ++ having ++ order ++ limit)))
+printable_parts distinct items refs condition group having order limit d i r c g h o l =
+    let third = All-append IsPrintable (refs ++ condition) group (All-append IsPrintable refs condition r c) g in
+    let fifth = All-append IsPrintable (refs ++ condition ++ group ++ having) order (All-append IsPrintable (refs ++ condition ++ group) having third h) o in
+    let behind = All-append IsPrintable (refs ++ condition ++ group ++ having ++ order) limit fifth l in
+    let all = refs ++ condition ++ group ++ having ++ order ++ limit in
+    All-cons IsPrintable (Word (codes "select")) (distinct ++ items ++ Word (codes "from") ∷ all) (keyword (codes "select") refl)
+    (printable_between (distinct ++ items) (Word (codes "from")) all (keyword (codes "from") refl) (All-append IsPrintable distinct items d i) behind)
+
+-- each part of a SELECT is written, and so each is shown
+pub select_shows : Shows SpellsSelect SpellsSelect IsSelectInside select_tokens
+select_shows select i tokens w s =
+    let back = s.refs ++ s.condition ++ s.group ++ s.having ++ s.order ++ s.limit in
+    let head = All-both IsWritten (s.distinct ++ s.items) (Word (codes "from") ∷ back) (All-behind IsWritten tokens [] (Word (codes "select")) (s.distinct ++ s.items ++ Word (codes "from") ∷ back) s.spelling w) in
+    let first = All-both IsWritten s.distinct s.items head.0 in
+    let behind = All-tail IsWritten (Word (codes "from")) back head.1 in
+    let sixth = All-both IsWritten (s.refs ++ s.condition ++ s.group ++ s.having ++ s.order) s.limit behind in
+    let fifth = All-both IsWritten (s.refs ++ s.condition ++ s.group ++ s.having) s.order sixth.0 in
+    let fourth = All-both IsWritten (s.refs ++ s.condition ++ s.group) s.having fifth.0 in
+    let third = All-both IsWritten (s.refs ++ s.condition) s.group fourth.0 in
+    let second = All-both IsWritten s.refs s.condition third.0 in
+    let distinct = distinct_gives select.distinct s.distinct first.0 s.is_distinct in
+    let items = items_show select.items i.items s.items first.1 s.are_items in
+    let refs = refs_show select.refs i.refs s.refs second.0 s.are_refs in
+    let condition = clause_gives (codes "where") refl select.cond i.cond s.condition second.1 s.is_condition in
+    let group = group_gives select.group s.group third.1 s.is_group in
+    let having = clause_gives (codes "having") refl select.having i.having s.having fourth.1 s.is_having in
+    let order = order_gives select.order i.order s.order fifth.1 s.is_order in
+    let limit = limit_gives select.limit i.limit s.limit sixth.1 s.is_limit in (
+      record {
+        distinct = distinct_tokens select.distinct;
+        items = items_tokens select.items;
+        refs = refs_tokens select.refs;
+        condition = clause_tokens (codes "where") select.cond;
+        group = group_tokens select.group;
+        having = clause_tokens (codes "having") select.having;
+        order = order_tokens select.order;
+        limit = limit_tokens select.limit;
+        spelling = refl;
+        is_distinct = distinct.0;
+        are_items = items.0;
+        are_refs = refs.0;
+        is_condition = condition.0;
+        is_group = group.0;
+        is_having = having.0;
+        is_order = order.0;
+        is_limit = limit.0;
+      },
+      printable_parts (distinct_tokens select.distinct) (items_tokens select.items) (refs_tokens select.refs) (clause_tokens (codes "where") select.cond) (group_tokens select.group) (clause_tokens (codes "having") select.having) (order_tokens select.order) (limit_tokens select.limit) distinct.1 items.1 refs.1 condition.1 group.1 having.1 order.1 limit.1,
+    )

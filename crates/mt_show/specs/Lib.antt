@@ -1,0 +1,3 @@
+pub mod Shown
+pub mod Statements
+pub mod Printing

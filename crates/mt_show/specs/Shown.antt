@@ -1,0 +1,136 @@
+-- The tokens that a statement is printed with: brackets only where the same tree needs them.
+use Rattle.std.specs.Prelude.{ℕ, suc, Bool, true, false, List, [], ◌∷◌, ◌++◌, map, flat_map, Option, Some, None, ℤ, pos, negsuc, codes}
+use Rattle.mt_lexer.specs.Tokens.{Lexeme, Word, Number, Quoted, Sign}
+use Rattle.mt_lexer.specs.declared.token.Symbol.TheVariants as symbol
+use Rattle.mt_tree.specs.declared.name.ColName.{ColName}
+use Rattle.mt_tree.specs.declared.expression.Literal.{Literal}
+use Rattle.mt_tree.specs.declared.expression.Literal.TheVariants.{Null, Int, Text}
+use Rattle.mt_tree.specs.declared.expression.Agg.{Agg}
+use Rattle.mt_tree.specs.declared.expression.Agg.TheVariants as agg
+use Rattle.mt_tree.specs.declared.expression.Atom.{Atom}
+use Rattle.mt_tree.specs.declared.expression.Atom.TheVariants as atom
+use Rattle.mt_tree.specs.declared.expression.Expr.{Expr}
+use Rattle.mt_tree.specs.declared.expression.Expr.TheOpen.{Expr-F, Term-F}
+use Rattle.mt_tree.specs.declared.expression.Expr.TheFolds.{fold-Expr}
+use Rattle.mt_tree.specs.declared.expression.Cond.{Cond}
+use Rattle.mt_tree.specs.declared.expression.Cond.TheOpen.{Cond-F}
+use Rattle.mt_tree.specs.declared.expression.Cond.TheFolds.{fold-Cond}
+use Rattle.mt_reader.specs.Forms.{word}
+use Rattle.mt_terms.specs.Expression.{sign_of}
+use Rattle.mt_terms.specs.Condition.{symbol_of}
+
+-- the lists one behind the other, with the separator between each and the next
+abbrev pub between : Lexeme → List (List Lexeme) → List Lexeme
+between by [] = []
+between by (x ∷ []) = x
+between by (x ∷ y ∷ ys) = x ++ by ∷ between by (y ∷ ys)
+
+-- in brackets
+abbrev pub bracketed : List Lexeme → List Lexeme
+bracketed tokens = Sign symbol.Open ∷ (tokens ++ Sign symbol.Close ∷ [])
+
+-- '-' is a token of its own
+abbrev pub int_tokens : ℤ → List Lexeme
+int_tokens (pos n) = Number n ∷ []
+int_tokens (negsuc n) = Sign symbol.Minus ∷ Number (suc n) ∷ []
+
+-- a literal
+abbrev pub literal_tokens : Literal → List Lexeme
+literal_tokens Null = word (codes "null")
+literal_tokens (Int z) = int_tokens z
+literal_tokens (Text text) = Quoted text ∷ []
+
+-- [qualifier '.'] name
+abbrev pub named_tokens : Option (List ℕ) → List ℕ → List Lexeme
+named_tokens None name = word name
+named_tokens (Some qualifier) name = Word qualifier ∷ Sign symbol.Dot ∷ Word name ∷ []
+
+-- a column
+abbrev pub column_tokens : ColName → List Lexeme
+column_tokens column = named_tokens column.qualifier column.name
+
+-- an aggregate
+abbrev pub agg_tokens : Agg → List Lexeme
+agg_tokens agg.CountAll = Word (codes "count") ∷ bracketed (Sign symbol.Star ∷ [])
+agg_tokens (agg.Count column) = Word (codes "count") ∷ bracketed (column_tokens column)
+agg_tokens (agg.Sum column) = Word (codes "sum") ∷ bracketed (column_tokens column)
+agg_tokens (agg.Min column) = Word (codes "min") ∷ bracketed (column_tokens column)
+agg_tokens (agg.Max column) = Word (codes "max") ∷ bracketed (column_tokens column)
+
+-- an atom
+abbrev pub atom_tokens : Atom → List Lexeme
+atom_tokens (atom.Column column) = column_tokens column
+atom_tokens (atom.Literal literal) = literal_tokens literal
+atom_tokens (atom.Agg agg) = agg_tokens agg
+
+-- The tokens of an expression or a condition, by the place where it stands.
+pub record Places : Type 0 where
+  -- alone, or within brackets
+  pub whole : List Lexeme
+  -- as a member of a sum or an OR
+  pub outer : List Lexeme
+  -- as a member of a product or an AND, or behind NOT
+  pub inner : List Lexeme
+
+-- what needs brackets nowhere
+abbrev pub never_bracketed : List Lexeme → Places
+never_bracketed tokens = record { whole = tokens; outer = tokens; inner = tokens }
+
+-- a product, or an AND
+abbrev pub bracketed_inside : List Lexeme → Places
+bracketed_inside tokens = record { whole = tokens; outer = tokens; inner = bracketed tokens }
+
+-- a sum, or an OR
+abbrev pub bracketed_as_member : List Lexeme → Places
+bracketed_as_member tokens = record { whole = tokens; outer = bracketed tokens; inner = bracketed tokens }
+
+-- a member of a sum, with its sign in front
+abbrev pub signed_tokens : Bool × Places → List Lexeme
+signed_tokens member = sign_of member.0 ∷ member.1.outer
+
+-- the members of a sum; the first has no sign
+abbrev pub sum_tokens : List (Bool × Places) → List Lexeme
+sum_tokens [] = []
+sum_tokens (first ∷ others) = first.1.outer ++ flat_map signed_tokens others
+
+-- one level of an expression
+abbrev pub expr_places_step : Expr-F Places (Bool × Places) → Places
+expr_places_step (Expr-F.Atom a) = never_bracketed (atom_tokens a)
+expr_places_step (Expr-F.Sum terms) = bracketed_as_member (sum_tokens terms)
+expr_places_step (Expr-F.Product members) = bracketed_inside (between (Sign symbol.Star) (map (λ member. member.inner) members))
+
+-- a member of a sum, and whether a minus stands in front
+abbrev pub term_places_step : Term-F Places (Bool × Places) → Bool × Places
+term_places_step term = (term.minus, term.expr)
+
+-- an expression by its place
+unfoldable pub expr_places : Expr → Places
+expr_places e = fold-Expr Places (Bool × Places) expr_places_step term_places_step e
+
+-- an expression
+abbrev pub expr_tokens : Expr → List Lexeme
+expr_tokens e = (expr_places e).whole
+
+-- NOT, where the predicate is negated
+abbrev pub not_tokens : Bool → List Lexeme
+not_tokens true = word (codes "not")
+not_tokens false = []
+
+-- one level of a condition
+abbrev pub cond_places_step : Cond-F Places → Places
+cond_places_step (Cond-F.Or members) = bracketed_as_member (between (Word (codes "or")) (map (λ member. member.outer) members))
+cond_places_step (Cond-F.And members) = bracketed_inside (between (Word (codes "and")) (map (λ member. member.inner) members))
+cond_places_step (Cond-F.Not inner) = never_bracketed (Word (codes "not") ∷ inner.inner)
+cond_places_step (Cond-F.Compare op left right) = never_bracketed (atom_tokens left ++ Sign (symbol_of op) ∷ atom_tokens right)
+cond_places_step (Cond-F.Member negated atom list) = never_bracketed (atom_tokens atom ++ not_tokens negated ++ Word (codes "in") ∷ bracketed (between (Sign symbol.Comma) (map atom_tokens list)))
+cond_places_step (Cond-F.Between negated atom low high) = never_bracketed (atom_tokens atom ++ not_tokens negated ++ Word (codes "between") ∷ (atom_tokens low ++ Word (codes "and") ∷ atom_tokens high))
+cond_places_step (Cond-F.Like negated atom pattern) = never_bracketed (atom_tokens atom ++ not_tokens negated ++ Word (codes "like") ∷ atom_tokens pattern)
+cond_places_step (Cond-F.IsNull negated atom) = never_bracketed (atom_tokens atom ++ Word (codes "is") ∷ (not_tokens negated ++ word (codes "null")))
+
+-- a condition by its place
+unfoldable pub cond_places : Cond → Places
+cond_places c = fold-Cond Places cond_places_step c
+
+-- a condition
+abbrev pub cond_tokens : Cond → List Lexeme
+cond_tokens c = (cond_places c).whole

@@ -1,0 +1,15 @@
+//! The printing of statements in their one spelling. It promises that what is printed of a statement
+//! that has a reading reads as the same tree.
+#![tactic(auto)]
+
+mod laws;
+mod part;
+mod place;
+mod statement;
+mod terms;
+
+pub use laws::shown_statements_are_spelled;
+pub use statement::show;
+
+#[cfg(test)]
+mod tests;
