@@ -124,7 +124,7 @@ fn reading(alloc: Global, text: &str) -> Result<String, AllocError> {
     }
 }
 
-const TABLES: [(&str, &str); 18] = [
+const TABLES: [(&str, &str); 22] = [
     ("CREATE TABLE t (a INTEGER)", "table t a:int ( )"),
     (
         "create\ttable T(A Integer not null,b varchar ( 007 ) , PRIMARY key(A, b) );",
@@ -161,6 +161,10 @@ const TABLES: [(&str, &str); 18] = [
     ("CREATE TABLE t (a INTEGER, )", "syntax"),
     ("CREATE TABLE t ()", "syntax"),
     ("CREATE TABLE t (a VARCHAR(-5))", "syntax"),
+    ("CREATE TABLE t (a VARCHAR)", "syntax"),
+    ("CREATE TABLE t (a VARCHAR 5)", "syntax"),
+    ("CREATE TABLE t (a DATE)", "syntax"),
+    ("CREATE TABLE t a INTEGER", "syntax"),
     ("CREATE TABLE t (key INTEGER)", "syntax"),
     ("CREATE TABLE Where (a INTEGER)", "syntax"),
     ("CREATE TABLE t (a INTEGER);;", "syntax"),
@@ -302,7 +306,7 @@ fn reads_commands_of_tenants(rt: HostRuntime) -> Result<(), Fail> {
     Ok(())
 }
 
-const FOLDS: [(&str, &str); 16] = [
+const FOLDS: [(&str, &str); 19] = [
     ("REFOLD 3 t TO CONV (a, b)", "refold 3 t ( a b )"),
     (
         "refold 3 T to conv (A), c1 (b), C6 (c, conv);",
@@ -317,6 +321,9 @@ const FOLDS: [(&str, &str); 16] = [
     ("REFOLD 3 t TO", "syntax"),
     ("REFOLD 3 t CONV (a)", "syntax"),
     ("REFOLD 3 t TO CONV ()", "syntax"),
+    ("REFOLD 3 t TO CONV (a,)", "syntax"),
+    ("REFOLD 3 t TO CONV a", "syntax"),
+    ("REFOLD 3 t TO CONV (1)", "syntax"),
     ("REFOLD 3 t TO CONV (a) C1 (b)", "syntax"),
     ("REFOLD 3 t TO CONV (a),", "syntax"),
     ("REFOLD 3 t TO C1 (a), CONV (b)", "syntax"),
