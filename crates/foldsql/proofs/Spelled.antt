@@ -2,11 +2,10 @@
 use Rattle.std.proofs.Common.{◌≡◌, ℕ, ◌+◌, ◌<◌, ◌≤◌, ◌^◌, List, [], ◌∷◌, ◌++◌, ◌&&◌, length, take, drop, cond, true, false, Bool, refl, sym, ◌∙◌, ap, arith, append_assoc}
 use Rattle.std.specs.Prelude.{codes, decimal, take_while}
 use Rattle.std.specs.Char.{is_ascii_digit}
-use Rattle.std.specs.Str.{all_ascii_digits, IsUtf8}
+use Rattle.std.specs.Str.{all_ascii_digits}
 use Rattle.std.specs.List.{prefix_len}
 use Rattle.std.proofs.lemmas.Grind.{common_steps}
-use Rattle.std.proofs.lemmas.Fmt.{digits_decimal, IsAscii-decimal}
-use Rattle.std.proofs.lemmas.Str.{IsUtf8-from_ascii}
+use Rattle.std.proofs.lemmas.Fmt.{digits_decimal}
 use Rattle.std.proofs.lemmas.Str.Parse.{numerals_by_value, tells_all_ascii_digits}
 use Rattle.std.proofs.lemmas.List.{append-nil}
 use Rattle.std.proofs.Math.Seq.{take-append_seam, drop-append_seam}
@@ -16,10 +15,6 @@ use Rattle.mt_model.specs.FirstPath.{SpellsCreateTenant}
 -- the digits of a number pass the test of digits
 pub decimal_passes : (n : ℕ) → n < 2 ^ 32 → all_ascii_digits (decimal n) ≡ true
 decimal_passes n small = digits_decimal (numerals_by_value _ tells_all_ascii_digits) n (omega arith)
-
--- the digits of a number are text
-pub decimal_text : (n : ℕ) → n < 2 ^ 32 → IsUtf8 (decimal n)
-decimal_text n small = IsUtf8-from_ascii _ (IsAscii-decimal n (omega arith))
 
 -- no more pass from the front on than there are
 pub prefix_len-le : (p : ℕ → Bool) (xs : List ℕ) → prefix_len p xs ≤ length xs

@@ -4,7 +4,7 @@ use Rattle.std.specs.Prelude.{codes}
 use Rattle.mt_lexer.specs.declared.token.Symbol.TheVariants as symbol
 use Rattle.mt_lexer.specs.Tokens.{Lexeme, Word, Sign}
 use Rattle.mt_tree.specs.declared.command.Def.{Def}
-use Rattle.mt_reader.specs.Descent.{after, is_reserved_name}
+use Rattle.mt_reader.specs.Descent.{after, is_reserved_name, names_of}
 use Rattle.mt_reader.specs.Forms.{Commas, MaybeList, Parts}
 use Rattle.mt_reader.specs.Fronts.{Begins}
 use Rattle.mt_lexer.specs.Reserved.{reserved}
@@ -12,7 +12,7 @@ use Rattle.mt_reader.proofs.Shrinking.{bind_some, same_tree, same_rest}
 use Rattle.mt_reader.proofs.Spelling.{IsSound, after_is, after_same}
 use Rattle.mt_adminlang.specs.declared.create.TableBody.{TableBody}
 use Rattle.mt_adminlang.specs.Command.{SpellsDef, SpellsPrimaryKey}
-use Rattle.mt_adminlang.specs.Descent.{names_of, primary_behind, next_behind, next_of, def_of, with_columns, body_behind, columns_of, body_of}
+use Rattle.mt_adminlang.specs.Descent.{primary_behind, next_behind, next_of, def_of, with_columns, body_behind, columns_of, body_of}
 use Rattle.mt_adminlang.proofs.Definitions.{NoNot, names_sound, names_complete, def_sound, def_complete, def_nonempty, def_begins}
 
 -- the key, or nothing

@@ -4,10 +4,11 @@ use Rattle.std.specs.Prelude.{codes}
 use Rattle.mt_lexer.specs.declared.token.Symbol.TheVariants as symbol
 use Rattle.mt_lexer.specs.Tokens.{Lexeme, Word, Number, Sign}
 use Rattle.mt_tree.specs.declared.command.AdminCmd.{AdminCmd}
-use Rattle.mt_reader.specs.Descent.{after, name_of, number_of, separated_of}
+use Rattle.mt_reader.specs.Descent.{after, name_of, number_of, separated_of, bracketed_of}
+use Rattle.mt_reader.proofs.Bracketing.{items_in_brackets_sound}
 use Rattle.mt_reader.specs.Fronts.{Begins}
 use Rattle.mt_reader.proofs.Shrinking.{bind_some, same_tree, same_rest}
-use Rattle.mt_reader.proofs.Spelling.{IsSound, after_is, name_is, number_is, separated_sound}
+use Rattle.mt_reader.proofs.Spelling.{IsSound, after_is, name_is, number_is}
 use Rattle.mt_adminlang.specs.Command.{SpellsExtensionDef}
 use Rattle.mt_adminlang.specs.Descent.{extension_def_of, body_of, table_of, extension_of, tenant_of, create_of, fold_of, extend_of, set_quota_of, advise_of, show_fold_of, refold_of, step_of, plain_command_of}
 use Rattle.mt_adminlang.specs.Plain.{SpellsPlainCommand}
@@ -57,19 +58,16 @@ module _ (lexemes left rest : List Lexeme) (command : AdminCmd) where
       let a = bind_some (name_of left) _ (command, rest) e in
       let b = bind_some (after (Word (codes "on")) a.0.1) _ (command, rest) a.2 in
       let c = bind_some (name_of b.0) _ (command, rest) b.2 in
-      let d = bind_some (after (Sign symbol.Open) c.0.1) _ (command, rest) c.2 in
-      let f = bind_some (separated_of extension_def_of (Sign symbol.Comma) d.0) _ (command, rest) d.2 in
-      let g = bind_some (after (Sign symbol.Close) f.0.1) _ (command, rest) f.2 in
+      let d = bind_some (bracketed_of (separated_of extension_def_of (Sign symbol.Comma)) c.0.1) _ (command, rest) c.2 in
       let n = name_is left a.0.1 a.0.0 a.1 in
       let t = name_is b.0 c.0.1 c.0.0 c.1 in
-      let v = separated_sound SpellsExtensionDef extension_def_of (Sign symbol.Comma) extension_def_sound d.0 f.0.1 f.0.0 f.1 in
-      let inner = v.front ++ Sign symbol.Close ∷ [] in
-      let front = Word (codes "create") ∷ Word (codes "extension") ∷ Word a.0.0 ∷ Word (codes "on") ∷ Word c.0.0 ∷ Sign symbol.Open ∷ inner in
-      let opened : d.0 ≡ inner ++ rest = v.whole ∙ ap (λ ls. v.front ++ ls) (after_is _ f.0.1 g.0 g.1 ∙ ap (λ ls. Sign symbol.Close ∷ ls) (same_rest g.2)) ∙ sym (append_assoc v.front (Sign symbol.Close ∷ []) rest) in
+      let v = items_in_brackets_sound SpellsExtensionDef extension_def_of extension_def_sound c.0.1 d.0.1 d.0.0 d.1 in
+      let front = Word (codes "create") ∷ Word (codes "extension") ∷ Word a.0.0 ∷ Word (codes "on") ∷ Word c.0.0 ∷ v.front in
+      let defs : c.0.1 ≡ v.front ++ rest = v.whole ∙ ap (λ ls. v.front ++ ls) (same_rest d.2) in
       record {
         front = front;
-        whole = cc (h, n.0, after_is _ a.0.1 b.0 b.1, t.0, after_is _ c.0.1 d.0 d.1, opened);
-        spelled = subst (SpellsPlainCommand front) (same_tree g.2) (record {
+        whole = cc (h, n.0, after_is _ a.0.1 b.0 b.1, t.0, defs);
+        spelled = subst (SpellsPlainCommand front) (same_tree d.2) (record {
           extension = Word a.0.0 ∷ [];
           table = Word c.0.0 ∷ [];
           defs = v.front;

@@ -6,52 +6,27 @@ use Rattle.mt_lexer.specs.Tokens.{Lexeme, Word, Number, Sign}
 use Rattle.mt_tree.specs.declared.command.Def.{Def}
 use Rattle.mt_tree.specs.declared.command.DefKind.{DefKind}
 use Rattle.mt_tree.specs.declared.command.DefKind.TheVariants.{Integer, Varchar}
-use Rattle.mt_reader.specs.Descent.{after, name_of, number_of, separated_of, is_reserved_name}
+use Rattle.mt_reader.specs.Descent.{after, name_of, number_of, is_reserved_name, names_of}
 use Rattle.mt_reader.specs.Forms.{Flag}
 use Rattle.mt_reader.specs.Fronts.{Begins}
-use Rattle.mt_reader.specs.Names.{IsName}
+use Rattle.mt_reader.specs.Names.{IsName, SpellsNames}
+use Rattle.mt_reader.proofs.Bracketing.{items_in_brackets_sound, items_in_brackets_complete}
 use Rattle.mt_reader.proofs.Fronts.{none_after}
 use Rattle.mt_reader.proofs.Parts.{name_sound, name_complete}
 use Rattle.mt_reader.proofs.Shrinking.{bind_some, same_tree, same_rest, name_shrinks}
-use Rattle.mt_reader.proofs.Spelling.{IsSound, IsComplete, IsCompleteBefore, Shrinks, after_is, name_is, number_is, separated_sound, separated_complete, sound_shrinks}
-use Rattle.mt_adminlang.specs.Command.{SpellsKind, SpellsDef, SpellsExtensionDef, SpellsNames, not_null}
-use Rattle.mt_adminlang.specs.Descent.{names_of, varchar_of, kind_of, kind_behind, not_null_of, not_null_behind, def_of, extension_def_of}
-
--- no comma comes where a bracket closes
-pub no_comma_close : (more : List Lexeme) → after (Sign symbol.Comma) (Sign symbol.Close ∷ more) ≡ None
-unfolding after
-no_comma_close more = refl
+use Rattle.mt_reader.proofs.Spelling.{IsSound, IsComplete, IsCompleteBefore, Shrinks, after_is, name_is, number_is, sound_shrinks}
+use Rattle.mt_adminlang.specs.Command.{SpellsKind, SpellsDef, SpellsExtensionDef, not_null}
+use Rattle.mt_adminlang.specs.Descent.{varchar_of, kind_of, kind_behind, not_null_of, not_null_behind, def_of, extension_def_of}
 
 -- names in brackets
 
 -- what is read as names in brackets is spelled so
 pub names_sound : IsSound SpellsNames names_of
-unfolding names_of
-names_sound lexemes rest names e =
-    let a = bind_some (after (Sign symbol.Open) lexemes) _ (names, rest) e in
-    let b = bind_some (separated_of name_of (Sign symbol.Comma) a.0) _ (names, rest) a.2 in
-    let c = bind_some (after (Sign symbol.Close) b.0.1) _ (names, rest) b.2 in
-    let v = separated_sound IsName name_of (Sign symbol.Comma) name_sound a.0 b.0.1 b.0.0 b.1 in
-    let front = Sign symbol.Open ∷ (v.front ++ Sign symbol.Close ∷ []) in
-    record {
-      front = front;
-      whole =
-          let last : c.0 ≡ rest = same_rest c.2 in
-          cc (after_is _ lexemes a.0 a.1, v.whole, after_is _ b.0.1 c.0 c.1, append_assoc v.front (Sign symbol.Close ∷ []) rest);
-      spelled = subst (SpellsNames front) (same_tree c.2) (record { inner = v.front; brackets = refl; body = v.spelled });
-    }
-
--- names between brackets are read
-names_read : (inner more : List Lexeme) (names : List (List ℕ)) → separated_of name_of (Sign symbol.Comma) (inner ++ Sign symbol.Close ∷ more) ≡ Some (names, Sign symbol.Close ∷ more) → names_of (Sign symbol.Open ∷ (inner ++ Sign symbol.Close ∷ more)) ≡ Some (names, more)
-unfolding names_of after
-names_read inner more names read = rw read refl
+names_sound = items_in_brackets_sound IsName name_of name_sound
 
 -- names in brackets are read
 pub names_complete : IsComplete SpellsNames names_of
-names_complete front more names s =
-    ap (λ ls. names_of (ls ++ more)) s.brackets
-    ∙ ap (λ ls. names_of (Sign symbol.Open ∷ ls)) (append_assoc s.inner (Sign symbol.Close ∷ []) more)
-    ∙ names_read s.inner more names (separated_complete IsName name_of (Sign symbol.Comma) refl name_complete name_shrinks s.inner (Sign symbol.Close ∷ more) names (no_comma_close more) s.body)
+names_complete = items_in_brackets_complete IsName name_of (λ _. Unit {0}) (λ _. tt) (λ _. tt) (λ front more tree _ s. name_complete front more tree s) name_shrinks
 
 -- kinds
 

@@ -7,15 +7,16 @@ use Rattle.mt_tree.specs.declared.command.AdminCmd.{AdminCmd}
 use Rattle.mt_tree.specs.declared.command.AdminCmd.TheVariants.{CreateTable, CreateExtension, CreateTenant, Extend, SetQuota, Advise, ShowFold, Refold, Step, Explain}
 use Rattle.mt_tree.specs.declared.command.Def.{Def}
 use Rattle.mt_tree.specs.declared.command.FoldText.{FoldText}
-use Rattle.mt_reader.specs.Descent.{after, name_of, number_of, separated_of, is_reserved_name}
+use Rattle.mt_reader.specs.Descent.{after, name_of, number_of, separated_of, is_reserved_name, bracketed_of}
+use Rattle.mt_reader.proofs.Bracketing.{items_in_brackets_complete}
 use Rattle.mt_reader.specs.Fronts.{AtEnd}
-use Rattle.mt_reader.proofs.Spelling.{IsCompleteBefore, separated_complete}
+use Rattle.mt_reader.proofs.Spelling.{IsCompleteBefore}
 use Rattle.mt_adminlang.specs.declared.create.TableBody.{TableBody}
 use Rattle.mt_adminlang.specs.Command.{SpellsExtensionDef}
 use Rattle.mt_adminlang.specs.Descent.{extension_def_of, body_of, table_of, extension_of, tenant_of, create_of, fold_of, extend_of, set_quota_of, advise_of, show_fold_of, refold_of, step_of, plain_command_of}
 use Rattle.mt_adminlang.specs.Plain.{SpellsPlainCommand}
 use Rattle.mt_adminlang.proofs.Bodies.{body_complete}
-use Rattle.mt_adminlang.proofs.Definitions.{no_comma_close, extension_def_complete, extension_def_shrinks}
+use Rattle.mt_adminlang.proofs.Definitions.{extension_def_complete, extension_def_shrinks}
 use Rattle.mt_adminlang.proofs.Folds.{NoComma, fold_complete}
 
 -- no comma comes at the end
@@ -29,9 +30,9 @@ unfolding plain_command_of create_of table_of after name_of
 table_read name inner more body free read = rw (free, read) refl
 
 -- a CREATE EXTENSION by its parts is read
-extension_read : (name base : List ℕ) (inner more : List Lexeme) (columns : List Def) → is_reserved_name name ≡ false → is_reserved_name base ≡ false → separated_of extension_def_of (Sign symbol.Comma) inner ≡ Some (columns, Sign symbol.Close ∷ more) → plain_command_of (Word (codes "create") ∷ Word (codes "extension") ∷ Word name ∷ Word (codes "on") ∷ Word base ∷ Sign symbol.Open ∷ inner) ≡ Some (CreateExtension name base columns, more)
+extension_read : (name base : List ℕ) (defs more : List Lexeme) (columns : List Def) → is_reserved_name name ≡ false → is_reserved_name base ≡ false → bracketed_of (separated_of extension_def_of (Sign symbol.Comma)) defs ≡ Some (columns, more) → plain_command_of (Word (codes "create") ∷ Word (codes "extension") ∷ Word name ∷ Word (codes "on") ∷ Word base ∷ defs) ≡ Some (CreateExtension name base columns, more)
 unfolding plain_command_of create_of extension_of after name_of
-extension_read name base inner more columns free free_base read = rw (free, free_base, read) refl
+extension_read name base defs more columns free free_base read = rw (free, free_base, read) refl
 
 -- a REFOLD by its parts is read
 refold_read : (tenant : ℕ) (name : List ℕ) (inner more : List Lexeme) (fold : FoldText) → is_reserved_name name ≡ false → fold_of inner ≡ Some (fold, more) → plain_command_of (Word (codes "refold") ∷ Number tenant ∷ Word name ∷ Word (codes "to") ∷ inner) ≡ Some (Refold tenant name fold, more)
@@ -49,11 +50,10 @@ plain_command_follows front more (CreateTable name columns key) end s =
     ∙ ap (λ ls. plain_command_of (Word (codes "create") ∷ Word (codes "table") ∷ Word name ∷ Sign symbol.Open ∷ ls)) regrouped
     ∙ table_read name (s.defs ++ (s.primary ++ Sign symbol.Close ∷ more)) more (record { columns = columns; key = key }) s.is_table.1 (body_complete s.defs s.primary more columns key s.are_defs s.is_primary)
 plain_command_follows front more (CreateExtension name base columns) end s =
-    let named = ap (λ extension. Word (codes "create") ∷ Word (codes "extension") ∷ (extension ++ Word (codes "on") ∷ (s.table ++ Sign symbol.Open ∷ (s.defs ++ Sign symbol.Close ∷ [])))) s.is_extension.0 in
-    let based = ap (λ table. Word (codes "create") ∷ Word (codes "extension") ∷ Word name ∷ Word (codes "on") ∷ (table ++ Sign symbol.Open ∷ (s.defs ++ Sign symbol.Close ∷ []))) s.is_table.0 in
-    ap (λ ls. plain_command_of (ls ++ more)) (s.spelling ∙ named ∙ based)
-    ∙ ap (λ ls. plain_command_of (Word (codes "create") ∷ Word (codes "extension") ∷ Word name ∷ Word (codes "on") ∷ Word base ∷ Sign symbol.Open ∷ ls)) (append_assoc s.defs (Sign symbol.Close ∷ []) more)
-    ∙ extension_read name base (s.defs ++ Sign symbol.Close ∷ more) more columns s.is_extension.1 s.is_table.1 (separated_complete SpellsExtensionDef extension_def_of (Sign symbol.Comma) refl extension_def_complete extension_def_shrinks s.defs (Sign symbol.Close ∷ more) columns (no_comma_close more) s.are_defs)
+    let named = ap (λ extension. Word (codes "create") ∷ Word (codes "extension") ∷ (extension ++ Word (codes "on") ∷ (s.table ++ s.defs))) s.is_extension.0 in
+    let based = ap (λ table. Word (codes "create") ∷ Word (codes "extension") ∷ Word name ∷ Word (codes "on") ∷ (table ++ s.defs)) s.is_table.0 in
+    let defs = items_in_brackets_complete SpellsExtensionDef extension_def_of (λ _. Unit {0}) (λ _. tt) (λ _. tt) (λ front more tree _ s. extension_def_complete front more tree s) extension_def_shrinks s.defs more columns s.are_defs in
+    ap (λ ls. plain_command_of (ls ++ more)) (s.spelling ∙ named ∙ based) ∙ extension_read name base (s.defs ++ more) more columns s.is_extension.1 s.is_table.1 defs
 plain_command_follows front more (CreateTenant tenant quota) end s = rw s refl
 plain_command_follows front more (Extend tenant extension) end s = rw (s.prefix, s.body.0, s.body.1) refl
 plain_command_follows front more (SetQuota tenant quota) end s = rw s refl

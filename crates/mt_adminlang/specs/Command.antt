@@ -10,7 +10,7 @@ use Rattle.mt_tree.specs.declared.command.DefKind.TheVariants.{Integer, Varchar}
 use Rattle.mt_tree.specs.declared.command.FoldText.{FoldText}
 use Rattle.mt_tree.specs.declared.command.ChunkText.{ChunkText}
 use Rattle.mt_reader.specs.Forms.{Commas, Bracketed, Behind, Parts, MaybeList, Flag, word}
-use Rattle.mt_reader.specs.Names.{IsName}
+use Rattle.mt_reader.specs.Names.{IsName, SpellsNames}
 use Rattle.mt_query.specs.Query.{SpellsSelect}
 
 -- INTEGER | VARCHAR '(' number ')'
@@ -29,10 +29,6 @@ SpellsDef tokens def = Parts (λ front. IsName front def.name) (Parts (λ front.
 -- name kind, in an extension
 abbrev pub SpellsExtensionDef : List Lexeme → Def → Type 0
 SpellsExtensionDef tokens def = Parts (λ front. IsName front def.name) (λ back. SpellsKind back def.kind) tokens × (def.not_null ≡ false)
-
--- '(' name {',' name} ')'
-abbrev pub SpellsNames : List Lexeme → List (List ℕ) → Type 0
-SpellsNames tokens names = Bracketed (Commas IsName) tokens names
 
 -- ',' PRIMARY KEY '(' names ')'
 abbrev pub SpellsPrimaryKey : List Lexeme → List (List ℕ) → Type 0
@@ -53,10 +49,10 @@ pub record SpellsExtension (tokens : List Lexeme) (name base : List ℕ) (column
   pub extension : List Lexeme
   pub table : List Lexeme
   pub defs : List Lexeme
-  pub spelling : tokens ≡ Word (codes "create") ∷ Word (codes "extension") ∷ (extension ++ Word (codes "on") ∷ (table ++ Sign Open ∷ (defs ++ Sign Close ∷ [])))
+  pub spelling : tokens ≡ Word (codes "create") ∷ Word (codes "extension") ∷ (extension ++ Word (codes "on") ∷ (table ++ defs))
   pub is_extension : IsName extension name
   pub is_table : IsName table base
-  pub are_defs : Commas SpellsExtensionDef defs columns
+  pub are_defs : Bracketed (Commas SpellsExtensionDef) defs columns
 
 -- C1 | C2 | C3 | C4 | C5 | C6
 abbrev pub IsShape : List ℕ → ℕ → Type 0

@@ -9,7 +9,7 @@ use Rattle.mt_tree.specs.declared.command.DefKind.{DefKind}
 use Rattle.mt_tree.specs.declared.command.DefKind.TheVariants.{Integer, Varchar}
 use Rattle.mt_tree.specs.declared.command.FoldText.{FoldText}
 use Rattle.mt_tree.specs.declared.command.ChunkText.{ChunkText}
-use Rattle.mt_reader.specs.Descent.{◌>>=◌, after, name_of, number_of, separated_of}
+use Rattle.mt_reader.specs.Descent.{◌>>=◌, after, name_of, number_of, separated_of, bracketed_of, names_of}
 use Rattle.mt_query.specs.Descent.{select_of}
 use Rattle.mt_adminlang.specs.declared.create.TableBody.{TableBody}
 
@@ -17,14 +17,6 @@ use Rattle.mt_adminlang.specs.declared.create.TableBody.{TableBody}
 abbrev pub either : {X : Type 0} → Option (List Lexeme) → (List Lexeme → Option X) → Option X → Option X
 either None read other = other
 either (Some rest) read other = read rest
-
--- '(' names ')'
-unfoldable pub names_of : List Lexeme → Option (List (List ℕ) × List Lexeme)
-names_of lexemes = do
-  open_ ← after (Sign symbol.Open) lexemes
-  names ← separated_of name_of (Sign symbol.Comma) open_
-  rest ← after (Sign symbol.Close) names.1
-  Some (names.0, rest)
 
 -- columns
 
@@ -128,10 +120,8 @@ extension_of lexemes = do
   name ← name_of lexemes
   on ← after (Word (codes "on")) name.1
   base ← name_of on
-  open_ ← after (Sign symbol.Open) base.1
-  columns ← separated_of extension_def_of (Sign symbol.Comma) open_
-  rest ← after (Sign symbol.Close) columns.1
-  Some (CreateExtension name.0 base.0 columns.0, rest)
+  columns ← bracketed_of (separated_of extension_def_of (Sign symbol.Comma)) base.1
+  Some (CreateExtension name.0 base.0 columns.0, columns.1)
 
 -- behind CREATE TENANT
 unfoldable pub tenant_of : List Lexeme → Option (AdminCmd × List Lexeme)

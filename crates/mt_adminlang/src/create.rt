@@ -8,7 +8,7 @@ use crate::column::{DefForm, ExtensionDefForm};
 use crate::names::names;
 use mt_lexer::Symbol;
 use mt_list::List;
-use mt_reader::{Item, ReadFault, Reader, pushed, separated, size_of};
+use mt_reader::{Item, ReadFault, Reader, bracketed, pushed, size_of};
 use mt_tree::{AdminCmd, Def, Names};
 use std::alloc::Global;
 
@@ -101,9 +101,7 @@ fn extension(alloc: Global, reader: &mut Reader<'_>) -> Result<Option<AdminCmd>,
     let name = reader.name(alloc)?;
     reader.word(b"on")?;
     let base = reader.name(alloc)?;
-    reader.symbol(Symbol::Open)?;
-    let columns = separated::<ExtensionDefForm>(alloc, reader)?;
-    reader.symbol(Symbol::Close)?;
+    let columns = bracketed::<ExtensionDefForm>(alloc, reader)?;
     match columns {
         Some(columns) => Ok(Some(AdminCmd::CreateExtension {
             name,

@@ -1,16 +1,14 @@
 -- Items with a separator between them, so many at most, as far as a loop has read.
 use Rattle.std.proofs.Common.{◌≡◌, ℕ, zero, suc, ◌+◌, ◌<◌, ◌≤◌, Bool, true, false, Option, Some, None, List, [], ◌∷◌, ◌++◌, length, refl, sym, ap, ◌∙◌, length-append, nat_le, arith}
 use Rattle.std.proofs.lemmas.Bool.{leb-true, le-leb}
-use Rattle.std.proofs.lemmas.List.Elements.{All-nil}
 use Rattle.std.specs.List.{All}
-use Rattle.std.specs.Option.{option_and_then}
 use Rattle.mt_lexer.specs.Tokens.{Lexeme}
 use Rattle.mt_reader.specs.declared.fault.ReadFault.{ReadFault}
 use Rattle.mt_reader.specs.Descent.{after, items_of, items_behind, separated_of, with_front, pushed}
 use Rattle.mt_reader.specs.Taken.{Keeps, Took, Fails}
-use Rattle.mt_reader.proofs.Lists.{SoFar, so_far_fault, keeps_pushed, with_front-append}
+use Rattle.mt_reader.proofs.Lists.{SoFar, so_far_none, so_far_more, so_far_all, so_far_fault}
 use Rattle.mt_reader.proofs.Literals.{fails_bind}
-use Rattle.mt_reader.proofs.Shrinking.{bind_some, guard_some, after_shrinks, same_tree}
+use Rattle.mt_reader.proofs.Shrinking.{bind_some, guard_some, same_tree}
 use Rattle.mt_changes.specs.Descent.{at_most}
 
 -- what is read in a list of so many at most is the list, and has no more
@@ -32,11 +30,6 @@ at_most_many limit trees rest many = by_test (nat_le (length trees) limit) refl 
   by_test true e = absurd (omega (arith, leb-true (length trees) limit e))
   by_test false e = rw e refl
 
--- nothing in front
-with_front-nil : {X : Type 0} (read : Option (List X × List Lexeme)) → with_front [] read ≡ read
-with_front-nil None = refl
-with_front-nil (Some more) = refl
-
 module _ {X : Type 0} (item : List Lexeme → Option (X × List Lexeme)) (by : Lexeme) (inside : X → Type 0) where
   -- a list has an item at least
   items_of-some : (fuel : ℕ) (left rest : List Lexeme) (trees : List X) → items_of item by fuel left ≡ Some (trees, rest) → 0 < length trees
@@ -47,72 +40,38 @@ module _ {X : Type 0} (item : List Lexeme → Option (X × List Lexeme)) (by : L
       let same : p.0.0 ∷ q.0.0 ≡ trees = same_tree q.2 in
       omega (arith, ap length same)
 
-  -- The items so far, which are so many, and those that are left, are all; and this is kept of those so far.
-  pub record Counted (all : Option (List X × List Lexeme)) (left : List Lexeme) (items : Option (List X)) (count : ℕ) : Type 0 where
-    pub front : List X
-    pub fuel : ℕ
-    pub enough : length left ≤ fuel
-    pub same : with_front front (items_of item by fuel left) ≡ all
-    pub keeps : Keeps (All inside) items front
-    pub counted : length front ≡ count
-
-  -- but for the number of them
-  uncounted : (all : Option (List X × List Lexeme)) (left : List Lexeme) (items : Option (List X)) (count : ℕ) → Counted all left items count → SoFar item by inside all left items
-  uncounted all left items count s = record { front = s.front; fuel = s.fuel; enough = s.enough; same = s.same; keeps = s.keeps }
+  -- The items so far, which are so many, and those that are left, are all.
+  abbrev pub Counted : Option (List X × List Lexeme) → List Lexeme → Option (List X) → ℕ → Type 0
+  Counted all left items count = (s : SoFar item by inside all left items) × (length s.front ≡ count)
 
   -- before the first item
   pub counted_none : (lexemes : List Lexeme) → Counted (separated_of item by lexemes) lexemes (Some []) 0
-  unfolding separated_of
-  counted_none lexemes = record {
-    front = [];
-    fuel = length lexemes;
-    enough = omega arith;
-    same = with_front-nil (items_of item by (length lexemes) lexemes);
-    keeps = (refl, All-nil inside);
-    counted = refl;
-  }
+  unfolding so_far_none
+  counted_none lexemes = (so_far_none item by inside lexemes, refl)
 
   -- the separator, and so more items
   pub counted_more : (all : Option (List X × List Lexeme)) (left mid rest : List Lexeme) (items : Option (List X)) (count : ℕ) (kept : Option X) (x : X) → Counted all left items count → item left ≡ Some (x, mid) → length mid < length left → Keeps inside kept x → after by mid ≡ Some rest → Counted all rest (pushed items kept) (count + 1)
-  counted_more all left mid rest items count kept x s e shorter k c = step s.fuel s.enough s.same where
-    step : (fuel : ℕ) → length left ≤ fuel → with_front s.front (items_of item by fuel left) ≡ all → Counted all rest (pushed items kept) (count + 1)
-    step zero enough same = absurd (omega arith)
-    step (suc fuel) enough same = record {
-      front = s.front ++ x ∷ [];
-      fuel = fuel;
-      enough = omega (arith, after_shrinks by mid rest c);
-      same =
-          sym (with_front-append s.front (x ∷ []) (items_of item by fuel rest))
-          ∙ ap (λ read. with_front s.front (with_front (x ∷ []) (items_behind (items_of item by fuel) mid read))) (sym c)
-          ∙ ap (λ read. with_front s.front (option_and_then (λ (first : X × List Lexeme). with_front (first.0 ∷ []) (items_behind (items_of item by fuel) first.1 (after by first.1))) read)) (sym e)
-          ∙ same;
-      keeps = keeps_pushed inside items kept s.front x s.keeps k;
-      counted = omega (arith, length-append s.front (x ∷ []), s.counted);
-    }
+  unfolding so_far_more
+  counted_more all left mid rest items count kept x s e shorter k c = (so_far_more item by inside all left mid rest items kept x s.0 e shorter k c, omega (arith, length-append s.0.front (x ∷ []), s.1))
 
   -- no separator, and so all items, which are few
   pub counted_all : (all : Option (List X × List Lexeme)) (left mid : List Lexeme) (items : Option (List X)) (count limit : ℕ) (kept : Option X) (x : X) → Counted all left items count → count < limit → item left ≡ Some (x, mid) → length mid < length left → Keeps inside kept x → after by mid ≡ None → Took (All inside) (pushed items kept) mid (at_most limit all)
-  counted_all all left mid items count limit kept x s few e shorter k c = step s.fuel s.enough s.same where
-    step : (fuel : ℕ) → length left ≤ fuel → with_front s.front (items_of item by fuel left) ≡ all → Took (All inside) (pushed items kept) mid (at_most limit all)
-    step zero enough same = absurd (omega arith)
-    step (suc fuel) enough same = record {
-      tree = s.front ++ x ∷ [];
-      reads =
-          let read : all ≡ Some (s.front ++ x ∷ [], mid) =
-          sym same
-          ∙ ap (λ read. with_front s.front (option_and_then (λ (first : X × List Lexeme). with_front (first.0 ∷ []) (items_behind (items_of item by fuel) first.1 (after by first.1))) read)) e
-          ∙ ap (λ read. with_front s.front (with_front (x ∷ []) (items_behind (items_of item by fuel) mid read))) c in
-          at_most_few limit all (s.front ++ x ∷ []) mid read (omega (arith, length-append s.front (x ∷ []), s.counted));
-      keeps = keeps_pushed inside items kept s.front x s.keeps k;
-    }
+  unfolding so_far_all
+  counted_all all left mid items count limit kept x s few e shorter k c =
+      let took = so_far_all item by inside all left mid items kept x s.0 e shorter k c in
+      record {
+        tree = took.tree;
+        reads = at_most_few limit all took.tree mid took.reads (omega (arith, length-append s.0.front (x ∷ []), s.1));
+        keeps = took.keeps;
+      }
 
   -- as many as may be, and another is to follow
   pub counted_full : (all : Option (List X × List Lexeme)) (left : List Lexeme) (items : Option (List X)) (count limit : ℕ) → Counted all left items count → limit ≤ count → at_most limit all ≡ None
-  counted_full all left items count limit s full = ap (at_most limit) (sym s.same) ∙ by_more (items_of item by s.fuel left) refl where
-    by_more : (more : Option (List X × List Lexeme)) → items_of item by s.fuel left ≡ more → at_most limit (with_front s.front more) ≡ None
+  counted_full all left items count limit s full = ap (at_most limit) (sym s.0.same) ∙ by_more (items_of item by s.0.fuel left) refl where
+    by_more : (more : Option (List X × List Lexeme)) → items_of item by s.0.fuel left ≡ more → at_most limit (with_front s.0.front more) ≡ None
     by_more None e = refl
-    by_more (Some more) e = at_most_many limit (s.front ++ more.0) more.1 (omega (arith, length-append s.front more.0, s.counted, items_of-some s.fuel left more.1 more.0 e))
+    by_more (Some more) e = at_most_many limit (s.0.front ++ more.0) more.1 (omega (arith, length-append s.0.front more.0, s.1, items_of-some s.0.fuel left more.1 more.0 e))
 
   -- why an item fails is why all of them do
   pub counted_fault : (all : Option (List X × List Lexeme)) (left : List Lexeme) (items : Option (List X)) (count limit : ℕ) (e : ReadFault) → Counted all left items count → Fails e (item left) → Fails e (at_most limit all)
-  counted_fault all left items count limit e s f = fails_bind e all _ (so_far_fault item by inside all left items e (uncounted all left items count s) f)
+  counted_fault all left items count limit e s f = fails_bind e all _ (so_far_fault item by inside all left items e s.0 f)

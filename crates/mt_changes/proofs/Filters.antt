@@ -9,11 +9,11 @@ use Rattle.mt_reader.specs.Fronts.{AtEnd}
 use Rattle.mt_reader.proofs.Maybes.{maybe_sound, maybe_complete}
 use Rattle.mt_reader.proofs.Shrinking.{bind_some, same_tree, same_rest}
 use Rattle.mt_reader.proofs.Spelling.{IsSound, IsCompleteBefore, name_is}
-use Rattle.mt_terms.specs.Condition.{SpellsCond}
+use Rattle.mt_terms.specs.Condition.{SpellsCond, SpellsWhere}
 use Rattle.mt_terms.specs.Descent.{cond_of, sign_of}
 use Rattle.mt_terms.proofs.Conditions.{EndsOr, cond_sound, cond_complete}
 use Rattle.mt_terms.proofs.Expressions.{EndsSum}
-use Rattle.mt_changes.specs.Change.{SpellsWhere, SpellsFilter}
+use Rattle.mt_changes.specs.Change.{SpellsFilter}
 use Rattle.mt_changes.specs.Descent.{filter_of}
 
 -- what reads perhaps a condition behind WHERE

@@ -1,5 +1,5 @@
 -- Tuples and INSERT: what is read is spelled so, and what is spelled so is read.
-use Rattle.std.proofs.Common.{◌≡◌, ℕ, ◌<◌, ◌≤◌, false, Option, Some, None, List, [], ◌∷◌, ◌++◌, length, refl, sym, ap, ◌∙◌, subst, append_assoc, arith}
+use Rattle.std.proofs.Common.{◌≡◌, ℕ, ◌≤◌, false, Option, Some, None, List, [], ◌∷◌, ◌++◌, length, refl, sym, ap, ◌∙◌, subst, append_assoc}
 use Rattle.std.specs.Prelude.{codes}
 use Rattle.mt_lexer.specs.declared.token.Symbol.TheVariants as symbol
 use Rattle.mt_lexer.specs.Tokens.{Lexeme, Word, Sign}
@@ -8,57 +8,35 @@ use Rattle.mt_tree.specs.declared.statement.Insert.{Insert}
 use Rattle.mt_tree.specs.declared.statement.Stmt.{Stmt}
 use Rattle.mt_tree.specs.declared.statement.Stmt.TheVariants as stmt
 use Rattle.mt_reader.specs.Descent.{after, name_of, literal_of, is_reserved_name, separated_of}
-use Rattle.mt_reader.specs.Forms.{Separated, Bracketed, MaybeList}
+use Rattle.mt_reader.specs.Forms.{Commas, MaybeList, Separated}
 use Rattle.mt_reader.specs.Fronts.{Begins, AtEnd}
 use Rattle.mt_reader.specs.Literals.{SpellsLiteral}
-use Rattle.mt_reader.specs.Names.{IsName}
+use Rattle.mt_reader.specs.Names.{IsName, SpellsNames}
 use Rattle.mt_reader.proofs.Parts.{name_sound, name_complete, literal_sound, literal_complete}
+use Rattle.mt_reader.proofs.Bracketing.{no_comma_close, brackets_append, closed_sound, closed_read, items_in_brackets_sound, items_in_brackets_complete, items_in_brackets_shrink}
 use Rattle.mt_reader.proofs.Shrinking.{bind_some, same_tree, same_rest, name_shrinks, literal_shrinks}
-use Rattle.mt_reader.proofs.Spelling.{IsSound, IsComplete, Shrinks, sound_shrinks, after_is, name_is, separated_sound, separated_complete}
+use Rattle.mt_reader.proofs.Spelling.{IsSound, IsComplete, Shrinks, after_is, name_is, separated_sound, separated_complete}
 use Rattle.mt_changes.specs.Change.{SpellsTuple, SpellsInsert, SpellsChange}
 use Rattle.mt_changes.specs.Descent.{tuple_of, few_tuples_of, columns_behind, columns_of, insert_of, change_of}
 use Rattle.mt_changes.proofs.Counted.{at_most_some, at_most_few}
 use Rattle.mt_changes.proofs.Filters.{no_comma_at_end}
-
--- no comma comes before a bracket that closes
-no_comma_close : (more : List Lexeme) → after (Sign symbol.Comma) (Sign symbol.Close ∷ more) ≡ None
-unfolding after
-no_comma_close more = refl
 
 -- tuples
 
 -- what is read is a tuple
 pub tuple_sound : IsSound SpellsTuple tuple_of
 unfolding tuple_of
-tuple_sound lexemes rest tuple e =
-    let a = bind_some (after (Sign symbol.Open) lexemes) _ (tuple, rest) e in
-    let b = bind_some (separated_of literal_of (Sign symbol.Comma) a.0) _ (tuple, rest) a.2 in
-    let c = bind_some (after (Sign symbol.Close) b.0.1) _ (tuple, rest) b.2 in
-    let s = separated_sound SpellsLiteral literal_of (Sign symbol.Comma) literal_sound a.0 b.0.1 b.0.0 b.1 in
-    let front = Sign symbol.Open ∷ (s.front ++ Sign symbol.Close ∷ []) in
-    record {
-      front = front;
-      whole =
-          let last : c.0 ≡ rest = same_rest c.2 in
-          after_is _ lexemes a.0 a.1 ∙ ap (λ ls. Sign symbol.Open ∷ ls) (s.whole ∙ ap (λ ls. s.front ++ ls) (after_is _ b.0.1 c.0 c.1 ∙ ap (λ ls. Sign symbol.Close ∷ ls) last) ∙ sym (append_assoc s.front (Sign symbol.Close ∷ []) rest));
-      spelled = subst (SpellsTuple front) (same_tree c.2) (record { inner = s.front; brackets = refl; body = s.spelled });
-    }
+tuple_sound = items_in_brackets_sound SpellsLiteral literal_of literal_sound
 
 -- a tuple is read
 pub tuple_complete : IsComplete SpellsTuple tuple_of
-unfolding tuple_of after
-tuple_complete front more tuple s =
-    let read = separated_complete SpellsLiteral literal_of (Sign symbol.Comma) refl literal_complete literal_shrinks s.inner (Sign symbol.Close ∷ more) tuple (no_comma_close more) s.body in
-    let all : front ++ more ≡ Sign symbol.Open ∷ (s.inner ++ Sign symbol.Close ∷ more) = ap (λ ls. ls ++ more) s.brackets ∙ ap (λ ls. Sign symbol.Open ∷ ls) (append_assoc s.inner (Sign symbol.Close ∷ []) more) in
-    rw (all, read) refl
+unfolding tuple_of
+tuple_complete = items_in_brackets_complete SpellsLiteral literal_of (λ _. Unit {0}) (λ _. tt) (λ _. tt) (λ front more tree _ s. literal_complete front more tree s) literal_shrinks
 
--- a tuple has a lexeme at least
-tuple_nonempty : (front : List Lexeme) (tuple : List Literal) → SpellsTuple front tuple → 0 < length front
-tuple_nonempty front tuple s = omega (arith, ap length s.brackets)
-
--- and so takes one
+-- and takes a lexeme at least
 pub tuple_shrinks : Shrinks tuple_of
-tuple_shrinks = sound_shrinks SpellsTuple tuple_of tuple_sound tuple_nonempty
+unfolding tuple_of
+tuple_shrinks = items_in_brackets_shrink SpellsLiteral literal_of literal_sound
 
 -- a list of tuples that is no longer than so many
 pub record Few (limit : ℕ) (tokens : List Lexeme) (tuples : List (List Literal)) : Type 0 where
@@ -83,15 +61,15 @@ few_complete limit front more tuples none s few =
 
 -- the columns of an INSERT
 abbrev pub SpellsColumns : List Lexeme → List (List ℕ) → Type 0
-SpellsColumns tokens columns = MaybeList (Bracketed (Separated IsName (Sign symbol.Comma))) tokens columns
+SpellsColumns tokens columns = MaybeList SpellsNames tokens columns
 
 -- what is read are names in brackets, or nothing
 columns_sound : IsSound SpellsColumns columns_of
 unfolding columns_of
 columns_sound lexemes rest columns e = by_open (after (Sign symbol.Open) lexemes) refl e where
-  as_columns : (inner : List Lexeme) (columns : List (List ℕ)) → Separated IsName (Sign symbol.Comma) inner columns → SpellsColumns (Sign symbol.Open ∷ (inner ++ Sign symbol.Close ∷ [])) columns
-  as_columns inner [] s = elim s [ ]
-  as_columns inner (c ∷ cs) s = record { inner = inner; brackets = refl; body = s }
+  as_columns : (front : List Lexeme) (columns : List (List ℕ)) → SpellsNames front columns → SpellsColumns front columns
+  as_columns front [] s = elim s.body [ ]
+  as_columns front (c ∷ cs) s = s
 
   by_open : (found : Option (List Lexeme)) → after (Sign symbol.Open) lexemes ≡ found → columns_behind found lexemes ≡ Some (columns, rest) → Begins SpellsColumns lexemes rest columns
   by_open None o e = record {
@@ -100,17 +78,8 @@ columns_sound lexemes rest columns e = by_open (after (Sign symbol.Open) lexemes
     spelled = subst (SpellsColumns []) (same_tree e) refl;
   }
   by_open (Some left) o e =
-      let a = bind_some (separated_of name_of (Sign symbol.Comma) left) _ (columns, rest) e in
-      let b = bind_some (after (Sign symbol.Close) a.0.1) _ (columns, rest) a.2 in
-      let s = separated_sound IsName name_of (Sign symbol.Comma) name_sound left a.0.1 a.0.0 a.1 in
-      let front = Sign symbol.Open ∷ (s.front ++ Sign symbol.Close ∷ []) in
-      record {
-        front = front;
-        whole =
-            let last : b.0 ≡ rest = same_rest b.2 in
-            after_is _ lexemes left o ∙ ap (λ ls. Sign symbol.Open ∷ ls) (s.whole ∙ ap (λ ls. s.front ++ ls) (after_is _ a.0.1 b.0 b.1 ∙ ap (λ ls. Sign symbol.Close ∷ ls) last) ∙ sym (append_assoc s.front (Sign symbol.Close ∷ []) rest));
-        spelled = subst (SpellsColumns front) (same_tree b.2) (as_columns s.front a.0.0 s.spelled);
-      }
+      let s = closed_sound (Commas IsName) (separated_of name_of (Sign symbol.Comma)) (separated_sound IsName name_of (Sign symbol.Comma) name_sound) lexemes left rest columns (after_is _ lexemes left o) e in
+      record { front = s.front; whole = s.whole; spelled = as_columns s.front columns s.spelled }
 
 -- names in brackets are read, and so is nothing where no bracket opens
 columns_complete : (front more : List Lexeme) (columns : List (List ℕ)) → after (Sign symbol.Open) more ≡ None → SpellsColumns front columns → columns_of (front ++ more) ≡ Some (columns, more)
@@ -118,8 +87,9 @@ unfolding columns_of after
 columns_complete front more [] none s = ap (λ ls. columns_of (ls ++ more)) s ∙ ap (λ found. columns_behind found more) none
 columns_complete front more (c ∷ cs) none s =
     let read = separated_complete IsName name_of (Sign symbol.Comma) refl name_complete name_shrinks s.inner (Sign symbol.Close ∷ more) (c ∷ cs) (no_comma_close more) s.body in
-    let all : front ++ more ≡ Sign symbol.Open ∷ (s.inner ++ Sign symbol.Close ∷ more) = ap (λ ls. ls ++ more) s.brackets ∙ ap (λ ls. Sign symbol.Open ∷ ls) (append_assoc s.inner (Sign symbol.Close ∷ []) more) in
-    rw (all, read) refl
+    ap (λ ls. columns_of (ls ++ more)) s.brackets
+    ∙ ap columns_of (brackets_append s.inner more)
+    ∙ closed_read (Commas IsName) (separated_of name_of (Sign symbol.Comma)) (s.inner ++ Sign symbol.Close ∷ more) more (c ∷ cs) read
 
 -- INSERT
 

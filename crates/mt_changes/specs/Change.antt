@@ -1,24 +1,19 @@
 -- The statements that change rows, over the tokens of a text.
-use Rattle.std.specs.Prelude.{◌≡◌, ◌≤◌, List, [], ◌∷◌, ◌++◌, length, Option, codes}
+use Rattle.std.specs.Prelude.{◌≡◌, ◌≤◌, List, [], ◌∷◌, ◌++◌, length, codes}
 use Rattle.mt_lexer.specs.Tokens.{Lexeme, Word, Sign}
 use Rattle.mt_lexer.specs.declared.token.Symbol.TheVariants.{Equal}
 use Rattle.mt_tree.specs.declared.expression.Literal.{Literal}
-use Rattle.mt_tree.specs.declared.expression.Cond.{Cond}
 use Rattle.mt_tree.specs.declared.statement.Stmt.{Stmt}
 use Rattle.mt_tree.specs.declared.statement.Stmt.TheVariants as stmt
 use Rattle.mt_tree.specs.declared.statement.Insert.{Insert}
 use Rattle.mt_tree.specs.declared.statement.Update.{Update}
 use Rattle.mt_tree.specs.declared.statement.SetItem.{SetItem}
 use Rattle.mt_tree.specs.declared.statement.Filter.{Filter}
-use Rattle.mt_reader.specs.Forms.{Commas, Bracketed, Behind, Parts, Maybe, MaybeList, word}
+use Rattle.mt_reader.specs.Forms.{Commas, Bracketed, Behind, Parts, MaybeList, word}
 use Rattle.mt_reader.specs.Literals.{SpellsLiteral}
-use Rattle.mt_reader.specs.Names.{IsName}
+use Rattle.mt_reader.specs.Names.{IsName, SpellsNames}
 use Rattle.mt_terms.specs.Expression.{SpellsExpr}
-use Rattle.mt_terms.specs.Condition.{SpellsCond}
-
--- [WHERE cond]
-abbrev pub SpellsWhere : List Lexeme → Option Cond → Type 0
-SpellsWhere tokens cond = Maybe (Behind (word (codes "where")) SpellsCond) tokens cond
+use Rattle.mt_terms.specs.Condition.{SpellsWhere}
 
 -- '(' literal {',' literal} ')'
 abbrev pub SpellsTuple : List Lexeme → List Literal → Type 0
@@ -31,7 +26,7 @@ pub record SpellsInsert (tokens : List Lexeme) (insert : Insert) : Type 0 where
   pub tuples : List Lexeme
   pub spelling : tokens ≡ Word (codes "insert") ∷ Word (codes "into") ∷ (table ++ columns ++ Word (codes "values") ∷ tuples)
   pub is_table : IsName table insert.table
-  pub are_columns : MaybeList (Bracketed (Commas IsName)) columns insert.columns
+  pub are_columns : MaybeList SpellsNames columns insert.columns
   pub are_tuples : Commas SpellsTuple tuples insert.tuples
   pub few : length insert.tuples ≤ 1000
 

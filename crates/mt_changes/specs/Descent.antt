@@ -8,7 +8,7 @@ use Rattle.mt_tree.specs.declared.statement.Filter.{Filter}
 use Rattle.mt_tree.specs.declared.statement.SetItem.{SetItem}
 use Rattle.mt_tree.specs.declared.statement.Stmt.{Stmt}
 use Rattle.mt_tree.specs.declared.statement.Stmt.TheVariants as stmt
-use Rattle.mt_reader.specs.Descent.{◌>>=◌, after, name_of, literal_of, separated_of, maybe_of}
+use Rattle.mt_reader.specs.Descent.{◌>>=◌, after, name_of, literal_of, separated_of, closed_of, bracketed_of, maybe_of}
 use Rattle.mt_terms.specs.Descent.{expr_of, cond_of}
 
 -- a table, and perhaps a condition
@@ -41,11 +41,7 @@ update_of lexemes = do
 
 -- literals in brackets
 unfoldable pub tuple_of : List Lexeme → Option (List Literal × List Lexeme)
-tuple_of lexemes = do
-  open_ ← after (Sign symbol.Open) lexemes
-  values ← separated_of literal_of (Sign symbol.Comma) open_
-  close ← after (Sign symbol.Close) values.1
-  Some (values.0, close)
+tuple_of lexemes = bracketed_of (separated_of literal_of (Sign symbol.Comma)) lexemes
 
 -- a list with so many members at most
 abbrev pub at_most : {X : Type 0} → ℕ → Option (List X × List Lexeme) → Option (List X × List Lexeme)
@@ -60,10 +56,7 @@ few_tuples_of limit lexemes = at_most limit (separated_of tuple_of (Sign symbol.
 -- names in brackets, where a bracket opens
 abbrev pub columns_behind : Option (List Lexeme) → List Lexeme → Option (List (List ℕ) × List Lexeme)
 columns_behind None lexemes = Some ([], lexemes)
-columns_behind (Some open_) lexemes = do
-  names ← separated_of name_of (Sign symbol.Comma) open_
-  close ← after (Sign symbol.Close) names.1
-  Some (names.0, close)
+columns_behind (Some open_) lexemes = closed_of (separated_of name_of (Sign symbol.Comma)) open_
 
 -- perhaps names in brackets
 unfoldable pub columns_of : List Lexeme → Option (List (List ℕ) × List Lexeme)

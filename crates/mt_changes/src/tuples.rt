@@ -5,7 +5,7 @@ ghost use Rattle.mt_changes.specs.Inside.{IsTupleInside};
 
 use mt_lexer::Symbol;
 use mt_list::List;
-use mt_reader::{Item, LiteralForm, ReadFault, Reader, pushed, separated};
+use mt_reader::{Item, LiteralForm, ReadFault, Reader, bracketed, pushed};
 use mt_tree::Tuple;
 use std::alloc::Global;
 
@@ -27,10 +27,7 @@ impl Item for TupleForm {
 
     #[tactic(auto, unfolding(crate::specs::Descent::tuple_of))]
     fn take(alloc: Global, reader: &mut Reader<'_>) -> Result<Option<Tuple>, ReadFault> {
-        reader.symbol(Symbol::Open)?;
-        let values = separated::<LiteralForm>(alloc, reader)?;
-        reader.symbol(Symbol::Close)?;
-        Ok(values)
+        bracketed::<LiteralForm>(alloc, reader)
     }
 }
 

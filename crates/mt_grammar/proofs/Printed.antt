@@ -11,13 +11,11 @@ use Rattle.mt_tree.specs.declared.statement.Stmt.{Stmt}
 use Rattle.mt_tree.specs.declared.statement.Stmt.TheVariants as stmt
 use Rattle.mt_reader.specs.Forms.{WithSemicolon}
 use Rattle.mt_reader.specs.Reading.{Reads}
-use Rattle.mt_query.specs.Inside.{IsSelectInside}
 use Rattle.mt_query.specs.Query.{SpellsSelect}
 use Rattle.mt_changes.specs.Change.{SpellsChange}
-use Rattle.mt_changes.specs.Inside.{IsChangeInside}
-use Rattle.mt_printer.specs.Text.{IsWritten, IsPrintable, text_of}
+use Rattle.mt_printer.specs.Text.{IsWritten, text_of}
 use Rattle.mt_show.specs.Statements.{select_tokens, statement_tokens, statement_text}
-use Rattle.mt_grammar.specs.Statement.{SpellsStmt, IsStmtInside}
+use Rattle.mt_grammar.specs.Statement.{SpellsStmt}
 
 -- the tokens in front of a semicolon can be written, as all can
 front_written : (lexemes : List Lexeme) (statement : Stmt) (s : WithSemicolon SpellsStmt lexemes statement) → All IsWritten lexemes → All IsWritten s.front
@@ -27,26 +25,26 @@ front_written lexemes statement s all = elim s.end [
 ]
 
 module _
-    (selects : (tokens : List Lexeme) (select : Select) → All IsWritten tokens → SpellsSelect tokens select → IsSelectInside select → SpellsSelect (select_tokens select) select × All IsPrintable (select_tokens select))
-    (changes : (tokens : List Lexeme) (statement : Stmt) → All IsWritten tokens → SpellsChange tokens statement → IsChangeInside statement → SpellsChange (statement_tokens statement) statement × All IsPrintable (statement_tokens statement)) where
-  -- the tokens of a statement spell it, and can be printed
-  spelled_again : (tokens : List Lexeme) (statement : Stmt) → All IsWritten tokens → SpellsStmt tokens statement → IsStmtInside statement → SpellsStmt (statement_tokens statement) statement × All IsPrintable (statement_tokens statement)
-  unfolding SpellsStmt IsStmtInside
-  spelled_again tokens (stmt.Select select) w s is = selects tokens select w s is
-  spelled_again tokens (stmt.Insert insert) w s is = changes tokens (stmt.Insert insert) w s is
-  spelled_again tokens (stmt.Update update) w s is = changes tokens (stmt.Update update) w s is
-  spelled_again tokens (stmt.Delete filter) w s is = changes tokens (stmt.Delete filter) w s is
-  spelled_again tokens (stmt.Restore filter) w s is = changes tokens (stmt.Restore filter) w s is
-  spelled_again tokens (stmt.Purge filter) w s is = changes tokens (stmt.Purge filter) w s is
+    (selects : (tokens : List Lexeme) (select : Select) → All IsWritten tokens → SpellsSelect tokens select → SpellsSelect (select_tokens select) select × All IsWritten (select_tokens select))
+    (changes : (tokens : List Lexeme) (statement : Stmt) → All IsWritten tokens → SpellsChange tokens statement → SpellsChange (statement_tokens statement) statement × All IsWritten (statement_tokens statement)) where
+  -- the tokens of a statement spell it, and can be written
+  spelled_again : (tokens : List Lexeme) (statement : Stmt) → All IsWritten tokens → SpellsStmt tokens statement → SpellsStmt (statement_tokens statement) statement × All IsWritten (statement_tokens statement)
+  unfolding SpellsStmt
+  spelled_again tokens (stmt.Select select) w s = selects tokens select w s
+  spelled_again tokens (stmt.Insert insert) w s = changes tokens (stmt.Insert insert) w s
+  spelled_again tokens (stmt.Update update) w s = changes tokens (stmt.Update update) w s
+  spelled_again tokens (stmt.Delete filter) w s = changes tokens (stmt.Delete filter) w s
+  spelled_again tokens (stmt.Restore filter) w s = changes tokens (stmt.Restore filter) w s
+  spelled_again tokens (stmt.Purge filter) w s = changes tokens (stmt.Purge filter) w s
 
   module _
-      (read : (lexemes : List Lexeme) → All IsPrintable lexemes → (tokens : List Token) × lexer.Says (text_of lexemes) tokens lexemes)
+      (read : (lexemes : List Lexeme) → All IsWritten lexemes → (tokens : List Token) × lexer.Says (text_of lexemes) tokens lexemes)
       (written : (text : List ℕ) (tokens : List Token) (lexemes : List Lexeme) → lexer.Says text tokens lexemes → All IsWritten lexemes) where
     -- the text of a statement reads as it
-    pub reads_again : (statement : Stmt) (text : List ℕ) → Reads SpellsStmt text statement → IsStmtInside statement → Reads SpellsStmt (statement_text statement) statement
-    reads_again statement text r is =
+    pub reads_again : (statement : Stmt) (text : List ℕ) → Reads SpellsStmt text statement → Reads SpellsStmt (statement_text statement) statement
+    reads_again statement text r =
         let w = front_written r.lexemes statement r.spelled (written text r.tokens r.lexemes r.says) in
-        let again = spelled_again r.spelled.front statement w r.spelled.body is in
+        let again = spelled_again r.spelled.front statement w r.spelled.body in
         let said = read (statement_tokens statement) again.1 in
         record {
           tokens = said.0;
@@ -56,6 +54,6 @@ module _
         }
 
     -- what is printed is that text
-    pub shows_again : {E : Type 0} (statement : Stmt) (r : Result (List ℕ) E) → IfOk r (λ shown. shown ≡ statement_text statement) → IfOk r (λ shown. (text : List ℕ) → Reads SpellsStmt text statement → IsStmtInside statement → Reads SpellsStmt shown statement)
-    shows_again statement (Ok shown) e = λ text r is. subst (λ (t : List ℕ). Reads SpellsStmt t statement) (sym e) (reads_again statement text r is)
+    pub shows_again : {E : Type 0} (statement : Stmt) (r : Result (List ℕ) E) → IfOk r (λ shown. shown ≡ statement_text statement) → IfOk r (λ shown. (text : List ℕ) → Reads SpellsStmt text statement → Reads SpellsStmt shown statement)
+    shows_again statement (Ok shown) e = λ text r. subst (λ (t : List ℕ). Reads SpellsStmt t statement) (sym e) (reads_again statement text r)
     shows_again statement (Err x) e = tt

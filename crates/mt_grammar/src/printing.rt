@@ -1,7 +1,7 @@
 ghost use Rattle.std.specs.Prelude.{◌≡◌, ℕ, List, IfOk};
 ghost use Rattle.mt_reader.specs.Reading.{Reads};
 ghost use Rattle.mt_show.specs.Statements.{statement_text};
-ghost use Rattle.mt_grammar.specs.Statement.{SpellsStmt, IsStmtInside};
+ghost use Rattle.mt_grammar.specs.Statement.{SpellsStmt};
 
 use mt_printer::printed_tokens_are_read;
 use mt_show::shown_statements_are_spelled;
@@ -10,11 +10,11 @@ use mt_value::Str;
 use std::alloc::{AllocError, Global};
 
 /// Prints a statement in its one spelling: its tokens with one space between, reserved words in upper
-/// case, brackets only where the tree needs them. What is printed of a statement that `parse` gives
-/// reads as the same tree.
+/// case, brackets only where the tree needs them. What is printed of a statement that has a
+/// reading reads as the same tree.
 pub fn show(alloc: Global, statement: &Stmt) -> Result<Str, AllocError>
     ensures text { IfOk result (λ shown. shown ≡ statement_text statement.now) }
-    ensures reads { IfOk result (λ shown. (text : List ℕ) → Reads SpellsStmt text statement.now → IsStmtInside statement.now → Reads SpellsStmt shown statement.now) }
+    ensures reads { IfOk result (λ shown. (text : List ℕ) → Reads SpellsStmt text statement.now → Reads SpellsStmt shown statement.now) }
 {
     shown_statements_are_spelled();
     printed_tokens_are_read();

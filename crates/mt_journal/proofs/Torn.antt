@@ -1,15 +1,11 @@
 -- Disks that are the same but for a range of one area.
-use Rattle.std.proofs.Common.{ℕ, ◌+◌, ◌≤◌, List, length, refl, ◌∙◌, arith}
+use Rattle.std.proofs.Common.{ℕ, ◌+◌, ◌≤◌, List, length, ◌∙◌, arith}
 use Rattle.std.specs.Prelude.{Result}
 use Rattle.mt_machine.specs.declared.machine.Area.{Area}
 use Rattle.mt_machine.specs.Meaning.{Disk, Meaning}
 use Rattle.mt_machine.specs.Calls.{Torn, Writes}
 use Rattle.mt_journal.specs.Steps.{TornFrom, Changes}
 use Rattle.mt_machine.specs.LeavesLaws.{write_leaves, leaves_then, leaves_weaker}
-
--- nothing changed
-pub torn_none : (area : Area) (at n : ℕ) (disk : Disk) → Torn area at n disk disk
-torn_none area at n disk = record { before = λ _ _. refl; after = λ _ _. refl; other = λ _ _. refl }
 
 -- what changed in two steps changed within a range of both
 pub torn_join : (area : Area) (at n p m q k : ℕ) (first second third : Disk) → at ≤ p → p + m ≤ at + n → at ≤ q → q + k ≤ at + n

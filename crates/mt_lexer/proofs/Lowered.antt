@@ -6,7 +6,6 @@ use Rattle.mt_lexer.specs.declared.token.TokenKind.TheVariants as kind
 use Rattle.mt_lexer.specs.declared.token.Token.{Token}
 use Rattle.mt_lexer.specs.Tokens.{Lexeme, Word, Number, Quoted, Sign, IsToken, IsOfKind, Spells, lower}
 use Rattle.mt_lexer.proofs.Reading.{word_from_spells}
-use Rattle.mt_lexer.proofs.Tiling.{kind_is, kind_of}
 
 -- std's lower case of a byte is the crate's
 lower_is_ascii : (b : ℕ) → to_ascii_lowercase b ≡ lower b
@@ -25,11 +24,6 @@ word_of_kind text t l h e = of l (subst (λ k. IsOfKind k l) e h.kind) h.spellin
   of (Number v) k s = absurd k
   of (Quoted v) k s = absurd k
   of (Sign v) k s = absurd k
-
--- what says a word is of the kind
-pub kind_of_word : (text : List ℕ) (t : Token) (name : List ℕ) → IsToken text t (Word name) → t.kind ≡ kind.Word
-unfolding kind_of
-kind_of_word text t name h = kind_is t.kind (Word name) h.kind
 
 -- a word is another one where the two have one lower case
 pub same_word_decides : (text : List ℕ) (t : Token) (l : Lexeme) (word : List ℕ) (test : Bool) → IsToken text t l → t.kind ≡ kind.Word → ((test ≡ true) ↔ (map to_ascii_lowercase (slice_range text t.from t.upto) ≡ map to_ascii_lowercase word)) → (test ≡ true → l ≡ Word (map lower word)) × (l ≡ Word (map lower word) → test ≡ true)

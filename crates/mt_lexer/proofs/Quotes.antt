@@ -1,8 +1,9 @@
 -- Texts in quotes, in which a quote stands twice.
-use Rattle.std.proofs.Common.{◌≡◌, ℕ, suc, ◌+◌, ◌<◌, ◌≤◌, List, [], ◌∷◌, ◌++◌, refl, sym, ap, ◌∙◌, ◌==◌, ◌⊎◌, inl, inr, ◌≢◌, length, take, drop, get_or, cond, arith}
-use Rattle.std.proofs.lemmas.Bool.{false≢true, cases_eq, cases_lt, eq-eqb, ne_eqb}
+use Rattle.std.proofs.Common.{◌≡◌, ℕ, suc, ◌+◌, ◌<◌, ◌≤◌, List, [], ◌∷◌, ◌++◌, refl, sym, ap, ◌∙◌, ◌==◌, inl, inr, ◌≢◌, length, take, drop, get_or, cond, arith}
+use Rattle.std.proofs.lemmas.Bool.{false≢true, cases_lt, eq-eqb, ne_eqb}
 use Rattle.std.proofs.lemmas.List.{append_assoc, take_more, take_all, take-append-drop, get_or_past}
 use Rattle.std.proofs.lemmas.List.Concat.{flat_map-append}
+use Rattle.mt_value.proofs.Doubling.{doubled-cons}
 use Rattle.mt_lexer.specs.Tokens.{BeginsNoWith, doubled, Quoted}
 use Rattle.mt_lexer.specs.Reads.{Reads}
 use Rattle.mt_lexer.proofs.Runs.{BeginsNoWith_from}
@@ -10,13 +11,6 @@ use Rattle.mt_lexer.proofs.Runs.{BeginsNoWith_from}
 -- no quote stands first
 abbrev pub NoQuoteFirst : List ℕ → Type 0
 NoQuoteFirst bytes = BeginsNoWith (λ b. b == 39) bytes
-
--- a quote in the text stands twice, and any other byte once
-doubled-cons : (b : ℕ) (bs : List ℕ) → ((b ≡ 39) × (doubled (b ∷ bs) ≡ 39 ∷ 39 ∷ doubled bs)) ⊎ ((b ≢ 39) × (doubled (b ∷ bs) ≡ b ∷ doubled bs))
-doubled-cons b bs = elim (cases_eq b 39) [
-  | inl e ↦ inl (e, rw (eq-eqb b 39 e) refl)
-  | inr h ↦ inr (h, rw (ne_eqb b 39 h) refl)
-]
 
 -- a text with one more byte that is no quote
 doubled_push : (bs : List ℕ) (b : ℕ) → b ≢ 39 → doubled (bs ++ b ∷ []) ≡ doubled bs ++ b ∷ []

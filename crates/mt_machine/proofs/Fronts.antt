@@ -14,10 +14,6 @@ torn_wider area at m n old new wider torn =
 pub one_torn_wider : (area : Area) (at m n : ℕ) (images : Disk → Type 0) (image : Disk) → m ≤ n → TornOne area at m images image → TornOne area at n images image
 one_torn_wider area at m n images image wider torn = (torn.0, torn.1, torn_wider area at m n torn.0 image wider torn.2)
 
--- a disk is torn in each range of itself
-pub torn_itself : (area : Area) (at n : ℕ) (disk : Disk) → Torn area at n disk disk
-torn_itself area at n disk = record { before = λ k _. refl; after = λ k _. refl; other = λ b _. refl }
-
 -- the output with the first bytes behind it
 pub puts_out_first : (bytes old new : List ℕ) (n : ℕ) → new ≡ old ++ take n bytes → PutsOutFront bytes old new
 puts_out_first bytes old new n is = record {

@@ -3,7 +3,7 @@ use Rattle.std.specs.Prelude.{Result}
 use Rattle.std.proofs.Common.{◌≡◌, ◌⊎◌, ℕ, ◌≤◌, IsTrue, List, length, refl, ◌∙◌, inl, inr, le_refl, le_trans}
 use Rattle.mt_machine.specs.declared.machine.Area.{Area}
 use Rattle.mt_machine.specs.Meaning.{Disk, Meaning}
-use Rattle.mt_machine.specs.Calls.{Before, Elapses, Reads, Syncs, Torn, Writes}
+use Rattle.mt_machine.specs.Calls.{Before, Elapses, Syncs, Torn, Writes}
 use Rattle.mt_machine.specs.Leaves.{Leaves, Looks}
 
 -- a moment that was there at the start of a call, or that arises in it, leaves a disk with the property
@@ -25,27 +25,6 @@ before_by_time old new arises has time tells may t image out early since =
       | inl before ↦ inl before
       | inr arisen ↦ inr (may image out arisen)
     ]
-
--- a read leaves what a stop before it could leave
-pub read_leaves : {T E : Type 0} {result : Result T E} {area : Area} {at : ℕ} {buf : List ℕ} {old new : Meaning} (has : Disk → Type 0) → Reads result area at buf old new
-    → (IsTrue new.tells_moments → (image : Disk) → old.images image → has image) → Leaves has old new
-read_leaves {old} {new} has call was = record {
-  told = call.told;
-  told_moments = call.time.told;
-  output = call.output;
-  disk_faults = call.cause.no_lower;
-  emit_faults = call.emit_faults;
-  later = call.time.later;
-  now = λ tells image is. was tells image ((call.images tells image).0 is);
-  each = λ tells. each_by_time old new (Before old) has call.time tells (was tells) (λ image out is. (was tells image is.0, is.1));
-  before = λ tells. before_by_time old new (Before old) has call.time tells (λ image out is. (was tells image is.0, is.1));
-  keeps = call.time.keeps;
-}
-
--- a read changes neither area
-pub read_looks : {T E : Type 0} {result : Result T E} {area : Area} {at : ℕ} {buf : List ℕ} {old new : Meaning} → Reads result area at buf old new → Looks old new
-read_looks {old} call =
-    record { content = call.content; leaves = read_leaves old.images call (λ _ _ is. is) }
 
 -- a write leaves what a stop before it could leave, with any bytes in the range
 pub write_leaves : {T E : Type 0} {result : Result T E} {area : Area} {at : ℕ} {bytes : List ℕ} {old new : Meaning} (has : Disk → Type 0) → Writes result area at bytes old new

@@ -1,5 +1,5 @@
 -- Worked examples of the definitions: what a few lines say, do and are answered.
-use Rattle.std.proofs.Common.{◌≡◌, ℕ, List, [], ◌∷◌, map, length, sum_by, Option, true, false, Some, None, refl, sym, ap, ◌∙◌, pos, negsuc, codes}
+use Rattle.std.proofs.Common.{◌≡◌, ℕ, List, [], ◌∷◌, map, length, sum_by, Option, Bool, true, false, Some, None, refl, sym, ap, ◌∙◌, pos, negsuc, codes}
 use Rattle.std.specs.Fmt.{digits}
 use Rattle.std.specs.FinMap as finite
 use Rattle.std.specs.Ordering.{nat_cmp}
@@ -14,15 +14,18 @@ use Rattle.mt_tree.specs.declared.expression.Literal.{Literal}
 use Rattle.mt_tree.specs.declared.expression.Literal.TheVariants as literal
 use Rattle.mt_tree.specs.declared.expression.Atom.TheVariants as atom
 use Rattle.mt_tree.specs.declared.expression.Expr.TheVariants as expr
-use Rattle.mt_tree.specs.declared.statement.Stmt.{Stmt}
+use Rattle.mt_tree.specs.declared.statement.Insert as tree_insert
+use Rattle.mt_tree.specs.declared.statement.Select as tree_select
 use Rattle.mt_tree.specs.declared.statement.Stmt.TheVariants as stmt
+use Rattle.mt_tree.specs.declared.command.Def.{Def}
+use Rattle.mt_tree.specs.declared.command.AdminCmd.{AdminCmd}
 use Rattle.mt_tree.specs.declared.command.AdminCmd.TheVariants as command
 use Rattle.mt_tree.specs.declared.simple.SimpleStmt.{SimpleStmt}
 use Rattle.mt_tree.specs.declared.simple.SimpleStmt.TheVariants.{Insert, Select}
 use Rattle.mt_script.specs.Lines as lines
 use Rattle.mt_script.specs.Lines.{cut, without_return, lines_of, ended_lines_of}
-use Rattle.mt_model.specs.Said.{Said, Unread, Outside, Unserved, Says}
-use Rattle.mt_model.specs.Served.{served_statement, served_command}
+use Rattle.mt_model.specs.Said.{Said, Unread, Outside, Unserved, Says, IsServed}
+use Rattle.mt_model.specs.Served.{statement_tree, plain_def, command_tree}
 use Rattle.mt_model.specs.Answer.{answer, next_view}
 use Rattle.mt_model.specs.Command.{table_of_defs, new_database, command_refusal, applied, applied_view}
 use Rattle.mt_model.specs.Database.{PrivateDatabase, no_rows, with_table_in_each}
@@ -31,6 +34,7 @@ use Rattle.mt_model.specs.Laws.{get-insert, command_step-decided}
 use Rattle.mt_model.specs.Request.{Request, Statement, Command}
 use Rattle.mt_model.specs.Service.{Service, View, empty_service, quota_total}
 use Rattle.mt_model.specs.Step.{step, command_step}
+use Rattle.mt_model.proofs.ServedTrees.{select_of, insert_of, statement-unserved, command-unserved}
 
 -- the lines end at line feeds; a last one without a line feed counts where it has a byte
 cut-ended : cut (codes "a\nbc\n") ≡ codes "a" ∷ codes "bc" ∷ []
@@ -282,16 +286,25 @@ with_table_in_each-saved : with_table_in_each (record { quota = 1; current = no_
     ≡ record { quota = 1; current = no_rows ∷ no_rows ∷ []; saved = Some (record { content = no_rows ∷ []; changed = true }) }
 with_table_in_each-saved = refl
 
--- what is served of the trees: one tuple without names of columns
-served-insert : served_statement (stmt.Insert (record { table = codes "t"; columns = []; tuples = (literal.Null ∷ []) ∷ [] })) ≡ Some (Insert (codes "t") (literal.Null ∷ []))
-served-insert = refl
+-- INSERT INTO t VALUES (NULL), perhaps with names of columns
+abbrev insert_with_columns : List (List ℕ) → tree_insert.Insert
+insert_with_columns columns = record { table = codes "t"; columns = columns; tuples = (literal.Null ∷ []) ∷ [] }
 
-served-insert-columns : served_statement (stmt.Insert (record { table = codes "t"; columns = codes "a" ∷ []; tuples = (literal.Null ∷ []) ∷ [] })) ≡ None
-served-insert-columns = refl
+statement_tree-insert : statement_tree (Insert (codes "t") (literal.Null ∷ [])) ≡ stmt.Insert (insert_with_columns [])
+statement_tree-insert = refl
 
--- a SELECT of a column by its name alone, or of a star
-abbrev select_with_limit : Option ℕ → Stmt
-select_with_limit limit = stmt.Select (record {
+-- with names of columns it is not served
+insert_with_columns-unserved : IsServed statement_tree (stmt.Insert (insert_with_columns (codes "a" ∷ []))) → ⊥
+insert_with_columns-unserved = statement-unserved (stmt.Insert (insert_with_columns (codes "a" ∷ [])))
+    (λ s e.
+    let inserts : insert_with_columns (codes "a" ∷ []) ≡ insert_of s = cc in
+    let columns : codes "a" ∷ [] ≡ [] = ap (λ (insert : tree_insert.Insert). insert.columns) inserts in
+    cc)
+    (λ s e. cc)
+
+-- SELECT a FROM t, perhaps with a LIMIT
+abbrev select_with_limit : Option ℕ → tree_select.Select
+select_with_limit limit = record {
   distinct = false;
   items = record { expr = expr.Atom (atom.Column (record { qualifier = None; name = codes "a" })); name = None } ∷ [];
   refs = record { table = codes "t"; alias = None; on = None } ∷ [];
@@ -300,17 +313,36 @@ select_with_limit limit = stmt.Select (record {
   having = None;
   order = [];
   limit = limit;
-})
+}
 
-served-select : served_statement (select_with_limit None) ≡ Some (Select (codes "t") (codes "a" ∷ []))
-served-select = refl
+statement_tree-select : statement_tree (Select (codes "t") (codes "a" ∷ [])) ≡ stmt.Select (select_with_limit None)
+statement_tree-select = refl
 
-served-select-limit : served_statement (select_with_limit (Some 1)) ≡ None
-served-select-limit = refl
+-- with a LIMIT it is not served
+select_with_limit-unserved : IsServed statement_tree (stmt.Select (select_with_limit (Some 1))) → ⊥
+select_with_limit-unserved = statement-unserved (stmt.Select (select_with_limit (Some 1))) (λ s e. cc)
+    (λ s e.
+    let selects : select_with_limit (Some 1) ≡ select_of s = cc in
+    let limits : Some 1 ≡ None = ap (λ (select : tree_select.Select). select.limit) selects in
+    cc)
 
--- a table without NOT NULL and without a key
-served-table : served_command (command.CreateTable (codes "t") (record { name = codes "a"; kind = def.Integer; not_null = false } ∷ []) []) ≡ Some (CreateTable (codes "t") (record { name = codes "a"; kind = def.Integer } ∷ []))
-served-table = refl
+-- CREATE TABLE t (a INTEGER), perhaps with NOT NULL
+abbrev column_with : Bool → Def
+column_with not_null = record { name = codes "a"; kind = def.Integer; not_null = not_null }
 
-served-table-not_null : served_command (command.CreateTable (codes "t") (record { name = codes "a"; kind = def.Integer; not_null = true } ∷ []) []) ≡ None
-served-table-not_null = refl
+abbrev table_with : Bool → AdminCmd
+table_with not_null = command.CreateTable (codes "t") (column_with not_null ∷ []) []
+
+command_tree-table : command_tree (CreateTable (codes "t") (record { name = codes "a"; kind = def.Integer } ∷ [])) ≡ table_with false
+command_tree-table = refl
+
+-- with NOT NULL it is not served
+table_with-unplain : (columns : List SimpleDef) → column_with true ∷ [] ≡ map plain_def columns → ⊥
+table_with-unplain [] e = cc
+table_with-unplain (column ∷ columns) e =
+    let first : column_with true ≡ plain_def column = cc in
+    let flags : true ≡ false = ap (λ (def : Def). def.not_null) first in
+    cc
+
+table_with-unserved : IsServed command_tree (table_with true) → ⊥
+table_with-unserved = command-unserved (table_with true) (λ name columns e. let defs : column_with true ∷ [] ≡ map plain_def columns = cc in table_with-unplain columns defs) (λ tenant quota e. cc)

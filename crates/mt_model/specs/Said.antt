@@ -1,5 +1,5 @@
 -- What a text says to the service.
-use Rattle.std.specs.Prelude.{◌≡◌, ℕ, List, Option, Some, None}
+use Rattle.std.specs.Prelude.{◌≡◌, ℕ, List}
 use Rattle.mt_tree.specs.declared.simple.SimpleStmt.{SimpleStmt}
 use Rattle.mt_tree.specs.declared.simple.SimpleCmd.{SimpleCmd}
 use Rattle.mt_reader.specs.Forms.{Form}
@@ -7,7 +7,7 @@ use Rattle.mt_reader.specs.Reading.{Reads}
 use Rattle.mt_grammar.specs.Statement.{SpellsStmt, IsStmtInside}
 use Rattle.mt_adminlang.specs.Command.{SpellsCommand}
 use Rattle.mt_adminlang.specs.Inside.{IsCommandInside}
-use Rattle.mt_model.specs.Served.{served_statement, served_command}
+use Rattle.mt_model.specs.Served.{statement_tree, command_tree}
 
 -- What a text says.
 pub data Said (T : Type 0) : Type 0 where
@@ -19,17 +19,21 @@ pub data Said (T : Type 0) : Type 0 where
   Unserved : Said T
   Says : (served : T) → Said T
 
--- what a text says in a form, with a test for numbers inside 64 bits, and what is served of its trees
-abbrev pub IsSaid : {Tree T : Type 0} → Form Tree → (Tree → Type 0) → (Tree → Option T) → List ℕ → Said T → Type 0
-IsSaid {Tree} form inside served text Unread = (tree : Tree) → Reads form text tree → ⊥
-IsSaid {Tree} form inside served text Outside = (tree : Tree) × Reads form text tree × (inside tree → ⊥)
-IsSaid {Tree} form inside served text Unserved = (tree : Tree) × Reads form text tree × inside tree × (served tree ≡ None)
-IsSaid {Tree} form inside served text (Says x) = (tree : Tree) × Reads form text tree × inside tree × (served tree ≡ Some x)
+-- the tree of what is served
+abbrev pub IsServed : {Tree T : Type 0} → (T → Tree) → Tree → Type 0
+IsServed {Tree} {T} tree_of tree = (x : T) × (tree ≡ tree_of x)
+
+-- what a text says in a form, with a test for numbers inside 64 bits, and the trees of what is served
+abbrev pub IsSaid : {Tree T : Type 0} → Form Tree → (Tree → Type 0) → (T → Tree) → List ℕ → Said T → Type 0
+IsSaid {Tree} form inside tree_of text Unread = (tree : Tree) → Reads form text tree → ⊥
+IsSaid {Tree} form inside tree_of text Outside = (tree : Tree) × Reads form text tree × (inside tree → ⊥)
+IsSaid {Tree} form inside tree_of text Unserved = (tree : Tree) × Reads form text tree × inside tree × (IsServed tree_of tree → ⊥)
+IsSaid form inside tree_of text (Says x) = Reads form text (tree_of x) × inside (tree_of x)
 
 -- what a tenant's text says
 abbrev pub IsStatementSaid : List ℕ → Said SimpleStmt → Type 0
-IsStatementSaid text said = IsSaid SpellsStmt IsStmtInside served_statement text said
+IsStatementSaid text said = IsSaid SpellsStmt IsStmtInside statement_tree text said
 
 -- what the administrator's text says
 abbrev pub IsCommandSaid : List ℕ → Said SimpleCmd → Type 0
-IsCommandSaid text said = IsSaid SpellsCommand IsCommandInside served_command text said
+IsCommandSaid text said = IsSaid SpellsCommand IsCommandInside command_tree text said

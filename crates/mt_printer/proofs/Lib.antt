@@ -1,5 +1,5 @@
+pub mod Numerals
 pub mod Spelled
 pub mod Standing
 pub mod Capitals
-pub mod Quotes
 pub mod Joined

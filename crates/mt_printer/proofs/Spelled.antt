@@ -1,16 +1,13 @@
 -- What is printed of a token spells it.
-use Rattle.std.proofs.Common.{◌≡◌, ℕ, ◌^◌, ◌<◌, true, List, [], ◌∷◌, map, decimal, refl, sym, ◌∙◌, subst, arith}
+use Rattle.std.proofs.Common.{◌≡◌, ℕ, true, List, [], ◌∷◌, map, refl, sym, ◌∙◌, subst, arith}
 use Rattle.std.proofs.lemmas.Bool.{cond_both}
 use Rattle.std.proofs.lemmas.Bool.Decides.{nat_tests}
-use Rattle.std.proofs.lemmas.Fmt.{decimal_is_IsNumeral}
 use Rattle.std.proofs.lemmas.List.{length-map}
-use Rattle.std.proofs.lemmas.List.Elements.{All-nil, All-cons, All-map, All-weaker}
-use Rattle.std.proofs.lemmas.Str.Parse.{digit_from_value}
-use Rattle.std.specs.List.{AllPass}
-use Rattle.std.specs.Str.Parse.{AllDigits}
-use Rattle.mt_lexer.specs.Tokens.{Lexeme, Word, Number, Quoted, Sign, Spells, begins_word, is_in_word, is_digit, lower}
+use Rattle.std.proofs.lemmas.List.Elements.{All-map, All-weaker}
+use Rattle.mt_lexer.specs.Tokens.{Lexeme, Word, Number, Quoted, Sign, Spells, begins_word, is_in_word, lower}
 use Rattle.mt_reader.specs.Descent.{is_reserved_name}
-use Rattle.mt_printer.specs.Text.{upper, lexeme_text, IsPrintable}
+use Rattle.mt_printer.specs.Text.{upper, lexeme_text, IsWritten}
+use Rattle.mt_printer.proofs.Numerals.{spells_numeral}
 
 -- a byte in lower case is in lower case
 lower-lower : (b : ℕ) → lower (lower b) ≡ lower b
@@ -70,24 +67,11 @@ spells_itself (b ∷ bs) name s =
 spells_in_capitals : (name : List ℕ) → Spells name (Word name) → Spells (map upper name) (Word name)
 spells_in_capitals name s = spells_changed upper (record { same = lower-upper; inside = in_word_upper; first = begins_word_upper }) name name s
 
--- digits by their values are digits by their codes
-all_digits : (bytes : List ℕ) → AllDigits 10 bytes → AllPass is_digit bytes
-all_digits [] d = All-nil (λ b. is_digit b ≡ true)
-all_digits (b ∷ bs) d =
-    let range = digit_from_value b d.0 in
-    All-cons (λ b. is_digit b ≡ true) b bs (grind (arith, nat_tests, range.0, range.1)) (all_digits bs d.1)
-
--- a number in decimal spells it
-spells_decimal : (value : ℕ) → value < 2 ^ 64 → Spells (decimal value) (Number value)
-spells_decimal value small =
-    let n = decimal_is_IsNumeral value small in
-    (n.0.0, all_digits (decimal value) n.0.1, sym n.1)
-
 -- the text of each token spells it
-pub spells_printed : (lexeme : Lexeme) → IsPrintable lexeme → Spells (lexeme_text lexeme) lexeme
+pub spells_printed : (lexeme : Lexeme) → IsWritten lexeme → Spells (lexeme_text lexeme) lexeme
 spells_printed (Word name) written =
     let itself = spells_itself written.0 name written.1 in
     cond_both (is_reserved_name name) (map upper name) name (λ text. Spells text (Word name)) (λ _. spells_in_capitals name itself) (λ _. itself)
-spells_printed (Number value) small = spells_decimal value small
+spells_printed (Number value) written = spells_numeral value
 spells_printed (Quoted text) written = refl
 spells_printed (Sign sign) written = refl

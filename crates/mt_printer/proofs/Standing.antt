@@ -7,7 +7,7 @@ use Rattle.mt_lexer.specs.declared.token.Token.{Token}
 use Rattle.mt_lexer.specs.declared.token.Symbol.TheVariants as symbol
 use Rattle.mt_lexer.specs.Tokens.{Lexeme, Word, Number, Quoted, Sign, Spells, EndsBefore, IsOfKind, IsToken, IsGap, Stand, Says, is_blank}
 use Rattle.mt_lexer.proofs.Tiling.{kind_of}
-use Rattle.mt_printer.specs.Text.{lexeme_text, text_of, IsPrintable, IsWritten}
+use Rattle.mt_printer.specs.Text.{lexeme_text, text_of, IsWritten}
 use Rattle.mt_printer.proofs.Spelled.{spells_printed}
 
 -- a token is of its kind
@@ -41,9 +41,9 @@ placed : Lexeme → ℕ → Token
 placed lexeme at = record { kind = kind_of lexeme; from = at; upto = at + length (lexeme_text lexeme) }
 
 -- the text of a token, behind other bytes and with others behind it, is that token
-is_token : (text front rest : List ℕ) (lexeme : Lexeme) → IsPrintable lexeme → text ≡ front ++ (lexeme_text lexeme ++ rest) → EndsBefore lexeme rest → IsToken text (placed lexeme (length front)) lexeme
+is_token : (text front rest : List ℕ) (lexeme : Lexeme) → IsWritten lexeme → text ≡ front ++ (lexeme_text lexeme ++ rest) → EndsBefore lexeme rest → IsToken text (placed lexeme (length front)) lexeme
 unfolding placed
-is_token text front rest lexeme printable e ends =
+is_token text front rest lexeme written e ends =
     let word = lexeme_text lexeme in
     let upto = length front + length word in
     let behind : drop (length front) text ≡ word ++ rest = ap (drop (length front)) e ∙ drop_at front (word ++ rest) (length front) refl in
@@ -55,7 +55,7 @@ is_token text front rest lexeme printable e ends =
       forward = omega arith;
       within = omega arith;
       kind = kind_fits lexeme;
-      spelling = subst (λ bytes. Spells bytes lexeme) (sym piece) (spells_printed lexeme printable);
+      spelling = subst (λ bytes. Spells bytes lexeme) (sym piece) (spells_printed lexeme written);
       ends = subst (λ bytes. EndsBefore lexeme bytes) (sym left) ends;
     }
 
@@ -97,30 +97,30 @@ with_first text from token lexeme lexemes gap is_token behind = record {
 }
 
 -- what is printed stands there
-stands : (text front : List ℕ) (from : ℕ) (lexemes : List Lexeme) → All IsPrintable lexemes → IsGap text from (length front) → text ≡ front ++ text_of lexemes → StandsBehind text from lexemes
+stands : (text front : List ℕ) (from : ℕ) (lexemes : List Lexeme) → All IsWritten lexemes → IsGap text from (length front) → text ≡ front ++ text_of lexemes → StandsBehind text from lexemes
 unfolding placed
 stands text front from [] all gap e =
     let whole : length front ≡ length text = ap length (sym (e ∙ append-nil front)) in
     record { tokens = []; upto = from; stand = refl; rest = subst (IsGap text from) whole gap }
 stands text front from (x ∷ []) all gap e =
     let word = lexeme_text x in
-    let here = is_token text front [] x (All-head IsPrintable x [] all) (e ∙ ap (λ bytes. front ++ bytes) (sym (append-nil word))) (ends_at_end x) in
+    let here = is_token text front [] x (All-head IsWritten x [] all) (e ∙ ap (λ bytes. front ++ bytes) (sym (append-nil word))) (ends_at_end x) in
     let whole : length front + length word ≡ length text = sym (ap length e ∙ length-append front word) in
     let end : IsGap text (length front + length word) (length text) = subst (IsGap text (length front + length word)) whole (no_gap text (length front + length word) (omega arith)) in
     with_first text from (placed x (length front)) x [] gap here (record { tokens = []; upto = length front + length word; stand = refl; rest = end })
 stands text front from (x ∷ y ∷ ys) all gap e =
     let word = lexeme_text x in
     let rest = text_of (y ∷ ys) in
-    let here = is_token text front (32 ∷ rest) x (All-head IsPrintable x (y ∷ ys) all) e (ends_at_space x rest) in
+    let here = is_token text front (32 ∷ rest) x (All-head IsWritten x (y ∷ ys) all) e (ends_at_space x rest) in
     let behind : text ≡ (front ++ word) ++ 32 ∷ rest = e ∙ sym (append_assoc front word (32 ∷ rest)) in
     let all_behind : text ≡ ((front ++ word) ++ 32 ∷ []) ++ rest = behind ∙ sym (append_assoc (front ++ word) (32 ∷ []) rest) in
     let start : length (front ++ word) ≡ length front + length word = length-append front word in
     let end : length (front ++ word) + 1 ≡ length ((front ++ word) ++ 32 ∷ []) = sym (length-append (front ++ word) (32 ∷ [])) in
     let space : IsGap text (length front + length word) (length ((front ++ word) ++ 32 ∷ [])) = subst (λ k. IsGap text k (length ((front ++ word) ++ 32 ∷ []))) start (subst (IsGap text (length (front ++ word))) end (one_blank text (front ++ word) rest behind)) in
-    with_first text from (placed x (length front)) x (y ∷ ys) gap here (stands text ((front ++ word) ++ 32 ∷ []) (length front + length word) (y ∷ ys) (All-tail IsPrintable x (y ∷ ys) all) space all_behind)
+    with_first text from (placed x (length front)) x (y ∷ ys) gap here (stands text ((front ++ word) ++ 32 ∷ []) (length front + length word) (y ∷ ys) (All-tail IsWritten x (y ∷ ys) all) space all_behind)
 
 -- what is printed of tokens says the same tokens
-pub printed_says : (lexemes : List Lexeme) → All IsPrintable lexemes → (tokens : List Token) × Says (text_of lexemes) tokens lexemes
+pub printed_says : (lexemes : List Lexeme) → All IsWritten lexemes → (tokens : List Token) × Says (text_of lexemes) tokens lexemes
 printed_says lexemes all =
     let text = text_of lexemes in
     let found = stands text [] 0 lexemes all (no_gap text 0 (omega arith)) refl in

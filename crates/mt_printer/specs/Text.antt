@@ -1,5 +1,6 @@
 -- The text that tokens are printed as.
-use Rattle.std.specs.Prelude.{ℕ, ◌-◌, ◌^◌, ◌<◌, if◌then◌else◌, List, [], ◌∷◌, ◌++◌, map, decimal}
+use Rattle.std.specs.Prelude.{ℕ, ◌+◌, ◌-◌, ◌==◌, if◌then◌else◌, List, [], ◌∷◌, ◌++◌, map, codes}
+use Rattle.std.specs.Int.Digits.{digits_of}
 use Rattle.std.specs.List.{join_with_byte}
 use Rattle.mt_lexer.specs.Tokens.{Lexeme, Word, Number, Quoted, Sign, Spells, is_lower, doubled, symbol_bytes}
 use Rattle.mt_reader.specs.Descent.{is_reserved_name}
@@ -8,11 +9,15 @@ use Rattle.mt_reader.specs.Descent.{is_reserved_name}
 abbrev pub upper : ℕ → ℕ
 upper b = if is_lower b then b - 32 else b
 
+-- a number of any size in decimal, without leading zeros
+unfoldable pub numeral : ℕ → List ℕ
+numeral n = if n == 0 then codes "0" else map (λ digit. 48 + digit) (digits_of 10 n)
+
 -- reserved words in upper case and other words as they are, numbers without leading zeros, texts in
 -- quotes with each quote in them twice
 abbrev pub lexeme_text : Lexeme → List ℕ
 lexeme_text (Word name) = if is_reserved_name name then map upper name else name
-lexeme_text (Number value) = decimal value
+lexeme_text (Number value) = numeral value
 lexeme_text (Quoted text) = 39 ∷ (doubled text ++ 39 ∷ [])
 lexeme_text (Sign sign) = symbol_bytes sign
 
@@ -24,8 +29,3 @@ text_of lexemes = join_with_byte 32 (map lexeme_text lexemes)
 abbrev pub IsWritten : Lexeme → Type 0
 IsWritten (Word name) = (bytes : List ℕ) × Spells bytes (Word name)
 IsWritten other = Unit {0}
-
--- and a number that a machine's word holds
-abbrev pub IsPrintable : Lexeme → Type 0
-IsPrintable (Number value) = value < 2 ^ 64
-IsPrintable other = IsWritten other

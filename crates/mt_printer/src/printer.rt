@@ -1,12 +1,12 @@
-ghost use Rattle.std.specs.Prelude.{◌≡◌, ℕ, List, [], ◌∷◌, ◌++◌, IfOk, IfNone, IfSome, OnOk};
+ghost use Rattle.std.specs.Prelude.{◌≡◌, ℕ, List, [], ◌∷◌, ◌++◌, IfOk, OnOk};
 ghost use Rattle.std.specs.List.{list_any};
-ghost use Rattle.mt_lexer.specs.Tokens.{Lexeme, Word, Number, Quoted, Sign, doubled, is_upper, symbol_bytes};
+ghost use Rattle.mt_lexer.specs.Tokens.{Lexeme, Word, Number, Quoted, Sign, is_upper, symbol_bytes};
 ghost use Rattle.mt_reader.specs.Descent.{is_reserved_name};
 ghost use Rattle.mt_printer.specs.Spaced.{spaced};
 ghost use Rattle.mt_printer.specs.Text.{text_of};
 
 use mt_lexer::{Symbol, has_capitals, is_reserved};
-use mt_value::{Str, StrFault};
+use mt_value::{Str, split_quote};
 use std::alloc::{AllocError, Global};
 use std::marker::Model;
 
@@ -48,7 +48,6 @@ impl Printer {
     }
 
     /// Prints a number in decimal.
-    #[tactic(auto, unfolding(crate::specs::Spaced::spaced))]
     pub fn number(&mut self, number: u64) -> Result<(), AllocError>
         ensures { OnOk result (self.new ≡ self.old ++ spaced (Number number ∷ [])) }
     {
@@ -92,17 +91,8 @@ impl Printer {
     pub fn finish(self) -> Result<Str, AllocError>
         ensures { (lexemes : List Lexeme) → self ≡ spaced lexemes → IfOk result (λ text. text ≡ text_of lexemes) }
     {
-        owned(*self.text.allocator(), without_space(self.text.as_str()))
+        Str::from_str(*self.text.allocator(), without_space(self.text.as_str()))
     }
-}
-
-/// What stands in front of the first quote, and what behind it. `None` where there is no quote.
-fn split_quote(text: &str) -> Option<(&str, &str)>
-    ensures none { IfNone result (doubled text.now ≡ text.now) }
-    ensures parts { IfSome result (λ parts. text.now ≡ parts.0.now ++ 39 ∷ parts.1.now) }
-    ensures front { IfSome result (λ parts. doubled parts.0.now ≡ parts.0.now) }
-{
-    text.split_once('\'')
 }
 
 /// The text without a space in front.
@@ -113,17 +103,6 @@ fn without_space(text: &str) -> &str
     match text.strip_prefix(' ') {
         Some(behind) => behind,
         None => text,
-    }
-}
-
-/// A text of its own.
-fn owned(alloc: Global, text: &str) -> Result<Str, AllocError>
-    ensures { IfOk result (λ made. made ≡ text.now) }
-{
-    match Str::from_bytes(alloc, text.as_bytes()) {
-        Ok(text) => Ok(text),
-        Err(StrFault::Memory) => Err(AllocError),
-        Err(StrFault::NotUtf8) => unreachable!(),
     }
 }
 

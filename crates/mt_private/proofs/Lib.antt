@@ -1,5 +1,6 @@
 pub mod Decided
 pub mod Filled
+pub mod Found
 pub mod Printing
 pub mod Repeats
 pub mod Service

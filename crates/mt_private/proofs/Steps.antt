@@ -58,16 +58,6 @@ AreKept-push tables table entries kept = record {
       record { reaches = omega (arith, length-append tables (table ∷ []), is.reaches); none_open = is.none_open };
 }
 
--- nothing is kept at first
-pub AreKept-nothing : (entries : List (ℕ × PrivateDatabase)) → entries ≡ [] → AreKept [] entries
-AreKept-nothing entries none = record {
-  numbers = λ tenant large. ap (λ (es : List (ℕ × PrivateDatabase)). kept_at es tenant) none;
-  databases = λ tenant database e. absurd (empty tenant database (sym (ap (λ (es : List (ℕ × PrivateDatabase)). kept_at es tenant) none) ∙ e));
-}
-  where
-    empty : (tenant : ℕ) (database : PrivateDatabase) → kept_at [] tenant ≡ Some database → ⊥
-    empty tenant database e = cc
-
 -- a statement of a tenant that is there
 abbrev stepped_with : Service → ℕ → Said SimpleStmt → Option PrivateDatabase → Stepped
 stepped_with service tenant said database = record {

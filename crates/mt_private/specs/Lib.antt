@@ -1,4 +1,5 @@
 pub mod Coded
+pub mod Finding
 pub mod Kept
 pub mod Outcome
 pub mod Serving

@@ -153,7 +153,3 @@ select_follows front more select end s =
     let refs = refs_complete s.refs third select.refs (clauses_among parts more (clauses_in select) spelled end) s.are_refs in
     let clauses = clauses_complete parts more (clauses_in select) end spelled in
     rw (all, distinct, items, refs, clauses) refl
-
--- each SELECT begins with its word
-pub select_begins : (front : List Lexeme) (select : Select) → SpellsSelect front select → (back : List Lexeme) × (front ≡ Word (codes "select") ∷ back)
-select_begins front select s = (_, s.spelling)

@@ -12,7 +12,7 @@ use Rattle.mt_tree.specs.declared.statement.OrderBy.TheVariants.{Name, Position}
 use Rattle.mt_reader.specs.Forms.{Commas, Behind, Parts, Maybe, MaybeList, Flag, word}
 use Rattle.mt_reader.specs.Names.{IsName}
 use Rattle.mt_terms.specs.Expression.{SpellsColumn, SpellsExpr}
-use Rattle.mt_terms.specs.Condition.{SpellsCond}
+use Rattle.mt_terms.specs.Condition.{SpellsCond, SpellsWhere}
 
 -- expr [AS name]
 abbrev pub SpellsItem : List Lexeme → Item → Type 0
@@ -69,10 +69,6 @@ SpellsDirection tokens false = (tokens ≡ []) ⊎ (tokens ≡ word (codes "asc"
 -- (name | number) [ASC | DESC]
 abbrev pub SpellsKey : List Lexeme → OrderKey → Type 0
 SpellsKey tokens key = Parts (λ front. SpellsBy front key.by) (λ back. SpellsDirection back key.desc) tokens
-
--- WHERE cond
-abbrev pub SpellsWhere : List Lexeme → Option Cond → Type 0
-SpellsWhere tokens cond = Maybe (Behind (word (codes "where")) SpellsCond) tokens cond
 
 -- a number
 abbrev pub SpellsNumber : List Lexeme → ℕ → Type 0

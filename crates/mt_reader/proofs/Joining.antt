@@ -9,7 +9,7 @@ use Rattle.mt_reader.specs.Descent.{is_same, after, separated_of, joined_tree, j
 use Rattle.mt_reader.proofs.Shrinking.{bind_some, same_tree, same_rest}
 use Rattle.mt_reader.specs.Taken.{Keeps, Took, Fails}
 use Rattle.mt_reader.proofs.Literals.{fails_bind}
-use Rattle.mt_reader.proofs.Spelling.{IsSound, IsCompleteBefore, Shrinks, separated_sound, separated_shrinks, separated_complete_before}
+use Rattle.mt_reader.proofs.Spelling.{IsSound, IsCompleteBefore, Shrinks, separated_sound, separated_complete_before}
 
 module _ {T : Type 0} (form : Form T) (read : List Lexeme → Option (T × List Lexeme)) (by : Lexeme) (join : List T → T) where
   -- what is spelled with the separator between is joined
@@ -29,14 +29,6 @@ module _ {T : Type 0} (form : Form T) (read : List Lexeme → Option (T × List 
         whole = s.whole ∙ ap (λ ls. s.front ++ ls) (same_rest p.2);
         spelled = subst (Joined form by join s.front) (same_tree p.2) (as_joined s.front p.0.0 s.spelled);
       }
-
-  -- it takes a lexeme at least
-  pub joined_shrinks : Shrinks read → Shrinks (joined_of read by join)
-  unfolding joined_of
-  joined_shrinks shrinks lexemes rest tree e =
-      let p = bind_some (separated_of read by lexemes) _ (tree, rest) e in
-      let same : p.0.1 ≡ rest = same_rest p.2 in
-      omega (arith, ap length same, separated_shrinks form read by shrinks lexemes p.0.1 p.0.0 p.1)
 
   module _ (ends : List Lexeme → Type 0) (same : is_same by by ≡ true) (goes_on : (rest : List Lexeme) → ends (by ∷ rest)) (complete : IsCompleteBefore form ends read) (shrinks : Shrinks read) where
     -- members that are spelled are read

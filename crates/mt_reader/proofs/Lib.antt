@@ -1,3 +1,4 @@
+pub mod Bracketing
 pub mod Fronts
 pub mod Joining
 pub mod Lexemes

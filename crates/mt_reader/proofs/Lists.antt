@@ -30,7 +30,7 @@ with_front-append front middle None = refl
 with_front-append front middle (Some more) = ap (λ xs. Some (xs, more.1)) (sym (append_assoc front middle more.0))
 
 -- nothing in front
-with_front-nil : {X : Type 0} (read : Option (List X × List Lexeme)) → with_front [] read ≡ read
+pub with_front-nil : {X : Type 0} (read : Option (List X × List Lexeme)) → with_front [] read ≡ read
 with_front-nil None = refl
 with_front-nil (Some more) = refl
 
@@ -47,7 +47,7 @@ items_of-item : {X : Type 0} (item : List Lexeme → Option (X × List Lexeme)) 
 items_of-item item by fuel left mid x e = ap (option_and_then (λ (first : _ × List Lexeme). with_front (first.0 ∷ []) (items_behind (items_of item by fuel) first.1 (after by first.1)))) e
 
 -- before the first item
-pub so_far_none : {X : Type 0} (item : List Lexeme → Option (X × List Lexeme)) (by : Lexeme) (inside : X → Type 0) (lexemes : List Lexeme) → SoFar item by inside (separated_of item by lexemes) lexemes (Some [])
+unfoldable pub so_far_none : {X : Type 0} (item : List Lexeme → Option (X × List Lexeme)) (by : Lexeme) (inside : X → Type 0) (lexemes : List Lexeme) → SoFar item by inside (separated_of item by lexemes) lexemes (Some [])
 unfolding separated_of
 so_far_none item by inside lexemes = record {
   front = [];
@@ -57,36 +57,50 @@ so_far_none item by inside lexemes = record {
   keeps = (refl, All-nil inside);
 }
 
+-- the fuel that is left behind an item
+abbrev pub burnt : ℕ → ℕ
+burnt zero = zero
+burnt (suc fuel) = fuel
+
+-- it is enough for fewer lexemes
+pub enough_burnt : (few fuel : ℕ) → few < fuel → few ≤ burnt fuel
+enough_burnt few zero fewer = absurd (omega arith)
+enough_burnt few (suc fuel) fewer = omega arith
+
+-- one item, the separator, and more
+pub next_same : {X : Type 0} (item : List Lexeme → Option (X × List Lexeme)) (by : Lexeme) (all : Option (List X × List Lexeme)) (left mid rest : List Lexeme) (front : List X) (x : X) (fuel : ℕ) → length mid < length left → length left ≤ fuel → item left ≡ Some (x, mid) → after by mid ≡ Some rest → with_front front (items_of item by fuel left) ≡ all → with_front (front ++ x ∷ []) (items_of item by (burnt fuel) rest) ≡ all
+next_same item by all left mid rest front x zero shorter enough e c same = absurd (omega arith)
+next_same item by all left mid rest front x (suc fuel) shorter enough e c same =
+    sym (with_front-append front (x ∷ []) (items_of item by fuel rest))
+    ∙ ap (λ read. with_front front (with_front (x ∷ []) (items_behind (items_of item by fuel) mid read))) (sym c)
+    ∙ ap (with_front front) (sym (items_of-item item by fuel left mid x e))
+    ∙ same
+
+-- one item, and no separator
+pub last_same : {X : Type 0} (item : List Lexeme → Option (X × List Lexeme)) (by : Lexeme) (all : Option (List X × List Lexeme)) (left mid : List Lexeme) (front : List X) (x : X) (fuel : ℕ) → length mid < length left → length left ≤ fuel → item left ≡ Some (x, mid) → after by mid ≡ None → with_front front (items_of item by fuel left) ≡ all → all ≡ Some (front ++ x ∷ [], mid)
+last_same item by all left mid front x zero shorter enough e c same = absurd (omega arith)
+last_same item by all left mid front x (suc fuel) shorter enough e c same =
+    sym same
+    ∙ ap (with_front front) (items_of-item item by fuel left mid x e)
+    ∙ ap (λ read. with_front front (with_front (x ∷ []) (items_behind (items_of item by fuel) mid read))) c
+
 -- the separator, and so more items
-pub so_far_more : {X : Type 0} (item : List Lexeme → Option (X × List Lexeme)) (by : Lexeme) (inside : X → Type 0) (all : Option (List X × List Lexeme)) (left mid rest : List Lexeme) (items : Option (List X)) (kept : Option X) (x : X) → SoFar item by inside all left items → item left ≡ Some (x, mid) → length mid < length left → Keeps inside kept x → after by mid ≡ Some rest → SoFar item by inside all rest (pushed items kept)
-so_far_more item by inside all left mid rest items kept x s e shorter k c = step s.fuel s.enough s.same where
-  step : (fuel : ℕ) → length left ≤ fuel → with_front s.front (items_of item by fuel left) ≡ all → SoFar item by inside all rest (pushed items kept)
-  step zero enough same = absurd (omega arith)
-  step (suc fuel) enough same = record {
-    front = s.front ++ x ∷ [];
-    fuel = fuel;
-    enough = omega (arith, after_shrinks by mid rest c);
-    same =
-        sym (with_front-append s.front (x ∷ []) (items_of item by fuel rest))
-        ∙ ap (λ read. with_front s.front (with_front (x ∷ []) (items_behind (items_of item by fuel) mid read))) (sym c)
-        ∙ ap (with_front s.front) (sym (items_of-item item by fuel left mid x e))
-        ∙ same;
-    keeps = keeps_pushed inside items kept s.front x s.keeps k;
-  }
+unfoldable pub so_far_more : {X : Type 0} (item : List Lexeme → Option (X × List Lexeme)) (by : Lexeme) (inside : X → Type 0) (all : Option (List X × List Lexeme)) (left mid rest : List Lexeme) (items : Option (List X)) (kept : Option X) (x : X) → SoFar item by inside all left items → item left ≡ Some (x, mid) → length mid < length left → Keeps inside kept x → after by mid ≡ Some rest → SoFar item by inside all rest (pushed items kept)
+so_far_more item by inside all left mid rest items kept x s e shorter k c = record {
+  front = s.front ++ x ∷ [];
+  fuel = burnt s.fuel;
+  enough = enough_burnt (length rest) s.fuel (omega (arith, s.enough, after_shrinks by mid rest c));
+  same = next_same item by all left mid rest s.front x s.fuel shorter s.enough e c s.same;
+  keeps = keeps_pushed inside items kept s.front x s.keeps k;
+}
 
 -- no separator, and so all items
-pub so_far_all : {X : Type 0} (item : List Lexeme → Option (X × List Lexeme)) (by : Lexeme) (inside : X → Type 0) (all : Option (List X × List Lexeme)) (left mid : List Lexeme) (items : Option (List X)) (kept : Option X) (x : X) → SoFar item by inside all left items → item left ≡ Some (x, mid) → length mid < length left → Keeps inside kept x → after by mid ≡ None → Took (All inside) (pushed items kept) mid all
-so_far_all item by inside all left mid items kept x s e shorter k c = step s.fuel s.enough s.same where
-  step : (fuel : ℕ) → length left ≤ fuel → with_front s.front (items_of item by fuel left) ≡ all → Took (All inside) (pushed items kept) mid all
-  step zero enough same = absurd (omega arith)
-  step (suc fuel) enough same = record {
-    tree = s.front ++ x ∷ [];
-    reads =
-        sym same
-        ∙ ap (with_front s.front) (items_of-item item by fuel left mid x e)
-        ∙ ap (λ read. with_front s.front (with_front (x ∷ []) (items_behind (items_of item by fuel) mid read))) c;
-    keeps = keeps_pushed inside items kept s.front x s.keeps k;
-  }
+unfoldable pub so_far_all : {X : Type 0} (item : List Lexeme → Option (X × List Lexeme)) (by : Lexeme) (inside : X → Type 0) (all : Option (List X × List Lexeme)) (left mid : List Lexeme) (items : Option (List X)) (kept : Option X) (x : X) → SoFar item by inside all left items → item left ≡ Some (x, mid) → length mid < length left → Keeps inside kept x → after by mid ≡ None → Took (All inside) (pushed items kept) mid all
+so_far_all item by inside all left mid items kept x s e shorter k c = record {
+  tree = s.front ++ x ∷ [];
+  reads = last_same item by all left mid s.front x s.fuel shorter s.enough e c s.same;
+  keeps = keeps_pushed inside items kept s.front x s.keeps k;
+}
 
 -- no item, and so none of it reads
 pub so_far_fails : {X : Type 0} (item : List Lexeme → Option (X × List Lexeme)) (by : Lexeme) (inside : X → Type 0) (all : Option (List X × List Lexeme)) (left : List Lexeme) (items : Option (List X)) → SoFar item by inside all left items → item left ≡ None → all ≡ None

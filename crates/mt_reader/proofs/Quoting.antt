@@ -1,20 +1,14 @@
 -- Texts between quotes, in which each quote stands twice.
-use Rattle.std.proofs.Common.{◌≡◌, ◌≢◌, ◌⊎◌, ℕ, ◌+◌, ◌-◌, ◌<◌, ◌==◌, true, false, List, [], ◌∷◌, ◌++◌, length, take, drop, get_or, refl, sym, ap, ◌∙◌, subst, inl, inr, arith}
+use Rattle.std.proofs.Common.{◌≡◌, ℕ, ◌+◌, ◌-◌, ◌<◌, ◌==◌, true, false, List, [], ◌∷◌, ◌++◌, length, take, drop, get_or, refl, sym, ap, ◌∙◌, subst, inl, inr, arith}
 use Rattle.std.proofs.Math.Seq.{take-append_seam, drop-append-add, get_or-append_seam}
-use Rattle.std.proofs.lemmas.Bool.{cases_eq, eq-eqb, ne_eqb}
+use Rattle.std.proofs.lemmas.Bool.{ne_eqb}
 use Rattle.std.proofs.lemmas.List.{append_assoc, length-append, take-append-drop, at_drop_more}
 use Rattle.std.proofs.lemmas.Str.{IsUtf8-append, IsUtf8-take, IsUtf8-drop, IsCharBoundary-before_ascii, IsCharBoundary-after_ascii}
 use Rattle.std.specs.List.{slice_range}
 use Rattle.std.specs.Str.{IsUtf8}
+use Rattle.mt_value.proofs.Doubling.{doubled-cons}
 use Rattle.mt_lexer.specs.Tokens.{doubled}
 use Rattle.mt_reader.specs.Pieces.{undoubled, undoubled_behind}
-
--- a quote stands twice, and any other byte once
-doubled-cons : (b : ℕ) (bs : List ℕ) → ((b ≡ 39) × (doubled (b ∷ bs) ≡ 39 ∷ 39 ∷ doubled bs)) ⊎ ((b ≢ 39) × (doubled (b ∷ bs) ≡ b ∷ doubled bs))
-doubled-cons b bs = elim (cases_eq b 39) [
-  | inl e ↦ inl (e, rw (eq-eqb b 39 e) refl)
-  | inr h ↦ inr (h, rw (ne_eqb b 39 h) refl)
-]
 
 -- doubling is undone
 pub undoubled-doubled : (text : List ℕ) → undoubled (doubled text) ≡ text

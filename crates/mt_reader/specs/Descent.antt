@@ -104,6 +104,23 @@ items_of item by (suc fuel) lexemes = do
 unfoldable pub separated_of : {X : Type 0} → (List Lexeme → Option (X × List Lexeme)) → Lexeme → List Lexeme → Option (List X × List Lexeme)
 separated_of item by lexemes = items_of item by (length lexemes) lexemes
 
+-- what is read, up to the bracket that closes behind it
+abbrev pub closed_of : {X : Type 0} → (List Lexeme → Option (X × List Lexeme)) → List Lexeme → Option (X × List Lexeme)
+closed_of read lexemes = do
+  inner ← read lexemes
+  close ← after (Sign symbol.Close) inner.1
+  Some (inner.0, close)
+
+-- what is read in brackets
+unfoldable pub bracketed_of : {X : Type 0} → (List Lexeme → Option (X × List Lexeme)) → List Lexeme → Option (X × List Lexeme)
+bracketed_of read lexemes = do
+  open_ ← after (Sign symbol.Open) lexemes
+  closed_of read open_
+
+-- names in brackets
+abbrev pub names_of : List Lexeme → Option (List (List ℕ) × List Lexeme)
+names_of lexemes = bracketed_of (separated_of name_of (Sign symbol.Comma)) lexemes
+
 -- an item behind the word, where the word is there
 abbrev pub maybe_behind : {X : Type 0} → (List Lexeme → Option (X × List Lexeme)) → List Lexeme → Option (List Lexeme) → Option (Option X × List Lexeme)
 maybe_behind item lexemes None = Some (None, lexemes)

@@ -1,7 +1,7 @@
 ghost use Rattle.std.specs.Prelude.{◌≡◌, ◌<◌, Option, Some, List, length, map, IfOk, IfSome};
 ghost use Rattle.std.specs.List.{All};
 ghost use Rattle.mt_lexer.specs.Tokens.{Lexeme, Word, Sign, lower};
-ghost use Rattle.mt_reader.specs.Descent.{separated_of, maybe_of, pushed};
+ghost use Rattle.mt_reader.specs.Descent.{separated_of, bracketed_of, maybe_of, pushed};
 ghost use Rattle.mt_reader.specs.Taken.{TakesInside};
 
 use crate::ReadFault;
@@ -58,6 +58,21 @@ pub fn separated<I: Item>(
             return Ok(items);
         }
     }
+}
+
+/// Takes items in brackets with commas between them, one or more; `None` is for a number outside 64
+/// bits.
+#[tactic(auto, unfolding(crate::specs::Descent::bracketed_of))]
+pub fn bracketed<I: Item>(
+    alloc: Global,
+    reader: &mut Reader<'_>,
+) -> Result<Option<List<I::Tree>>, ReadFault>
+    ensures { TakesInside (All I.is_inside) result reader.new (bracketed_of (separated_of I.read (Sign Symbol.Comma)) reader.old) }
+{
+    reader.symbol(Symbol::Open)?;
+    let items = separated::<I>(alloc, reader)?;
+    reader.symbol(Symbol::Close)?;
+    Ok(items)
 }
 
 /// Takes an item behind this word, in any ASCII case, if the word comes next. The inner `None` is for

@@ -13,7 +13,7 @@ mod reader;
 
 pub use digits::size_of;
 pub use fault::ReadFault;
-pub use item::{Item, NameForm, optional, pushed, separated};
+pub use item::{Item, NameForm, bracketed, optional, pushed, separated};
 pub use literal::LiteralForm;
 pub use parse::ParseFault;
 pub use piece::Piece;

@@ -1,15 +1,21 @@
-use crate::{LiteralForm, NameForm, ReadFault, Reader, separated};
-use mt_lexer::tokens;
+use crate::{LiteralForm, NameForm, ReadFault, Reader, bracketed, optional, separated};
+use mt_lexer::{Symbol, tokens};
 use mt_tree::Literal;
 use std::alloc::{AllocError, Global};
 use std::test::Fail;
 
-/// Literals behind names, in few words.
+/// Literals, perhaps in brackets, behind names and perhaps an alias, in few words.
 fn show(out: &mut String, alloc: Global, reader: &mut Reader<'_>) -> Result<(), ReadFault> {
     let names = separated::<NameForm>(alloc, reader)?;
-    let literals = separated::<LiteralForm>(alloc, reader)?;
+    let alias = optional::<NameForm>(alloc, reader, b"as")?;
+    let in_brackets = matches!(reader.first_symbol(), Some(Symbol::Open));
+    let literals = if in_brackets {
+        bracketed::<LiteralForm>(alloc, reader)?
+    } else {
+        separated::<LiteralForm>(alloc, reader)?
+    };
     reader.end()?;
-    let (Some(names), Some(literals)) = (names, literals) else {
+    let (Some(names), Some(alias), Some(literals)) = (names, alias, literals) else {
         out.push_str("outside")?;
         return Ok(());
     };
@@ -17,7 +23,15 @@ fn show(out: &mut String, alloc: Global, reader: &mut Reader<'_>) -> Result<(), 
         out.push_str(name.as_str())?;
         out.push_str(" ")?;
     }
-    for literal in literals.as_slice() {
+    if let Some(alias) = alias {
+        write!(out, "as {} ", alias.as_str())?;
+    }
+    show_literals(out, literals.as_slice())?;
+    Ok(())
+}
+
+fn show_literals(out: &mut String, literals: &[Literal]) -> Result<(), AllocError> {
+    for literal in literals {
         match literal {
             Literal::Null => out.push_str("NULL ")?,
             Literal::Int(number) => write!(out, "{number} ")?,
@@ -50,7 +64,14 @@ fn reads_names_and_literals(rt: HostRuntime) -> Result<(), Fail> {
         ("a,b NULL, - 2,'it''s';", "a b NULL -2 'it's' "),
         ("a 9223372036854775808, 1", "outside"),
         ("a -9223372036854775808", "a -9223372036854775808 "),
+        ("a (1)", "a 1 "),
+        ("a AS B (NULL , 'x');", "a as b NULL 'x' "),
+        ("a (1, 9223372036854775808)", "outside"),
         ("a 1,", "unread"),
+        ("a (1", "unread"),
+        ("a ()", "unread"),
+        ("a ((1))", "unread"),
+        ("a as 1", "unread"),
         ("null 1", "unread"),
         ("a 1;;", "unread"),
     ];

@@ -1,3 +1,4 @@
+pub mod Levels
 pub mod PrintLevels
 pub mod PrintSteps
 pub mod ShownAtoms

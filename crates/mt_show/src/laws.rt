@@ -3,15 +3,13 @@ ghost use Rattle.mt_lexer.specs.Tokens.{Lexeme};
 ghost use Rattle.mt_tree.specs.declared.statement.Select.{Select};
 ghost use Rattle.mt_tree.specs.declared.statement.Stmt.{Stmt};
 ghost use Rattle.mt_query.specs.Query.{SpellsSelect};
-ghost use Rattle.mt_query.specs.Inside.{IsSelectInside};
 ghost use Rattle.mt_changes.specs.Change.{SpellsChange};
-ghost use Rattle.mt_changes.specs.Inside.{IsChangeInside};
-ghost use Rattle.mt_printer.specs.Text.{IsWritten, IsPrintable};
+ghost use Rattle.mt_printer.specs.Text.{IsWritten};
 ghost use Rattle.mt_show.specs.Statements.{select_tokens, statement_tokens};
 
 /// What is printed of a statement that has a reading reads as the same tree: its tokens spell it, and
-/// each of them can be printed. It does nothing.
+/// each of their words can be written. It does nothing.
 pub fn shown_statements_are_spelled()
-    ensures select { (tokens : List Lexeme) (select : Select) → All IsWritten tokens → SpellsSelect tokens select → IsSelectInside select → SpellsSelect (select_tokens select) select × All IsPrintable (select_tokens select) }
-    ensures change { (tokens : List Lexeme) (statement : Stmt) → All IsWritten tokens → SpellsChange tokens statement → IsChangeInside statement → SpellsChange (statement_tokens statement) statement × All IsPrintable (statement_tokens statement) }
+    ensures select { (tokens : List Lexeme) (select : Select) → All IsWritten tokens → SpellsSelect tokens select → SpellsSelect (select_tokens select) select × All IsWritten (select_tokens select) }
+    ensures change { (tokens : List Lexeme) (statement : Stmt) → All IsWritten tokens → SpellsChange tokens statement → SpellsChange (statement_tokens statement) statement × All IsWritten (statement_tokens statement) }
 {}

@@ -19,7 +19,6 @@ use mt_value::Cmp;
 use std::alloc::AllocError;
 
 impl Part for ColName {
-    ghost use Rattle.mt_show.specs.declared.place.Place.TheVariants.{Inner};
     ghost use Rattle.mt_show.specs.Shown.{column_tokens};
 
     ghost tokens = { column_tokens };
@@ -37,7 +36,6 @@ impl Part for ColName {
 }
 
 impl Part for Literal {
-    ghost use Rattle.mt_show.specs.declared.place.Place.TheVariants.{Inner};
     ghost use Rattle.mt_show.specs.Shown.{literal_tokens};
 
     ghost tokens = { literal_tokens };

@@ -1,5 +1,5 @@
 -- Columns, aggregates and atoms: what is read is spelled so, and what is spelled so is read.
-use Rattle.std.proofs.Common.{◌≡◌, ℕ, ◌<◌, Bool, true, false, cond, Option, Some, None, List, [], ◌∷◌, ◌++◌, length, refl, sym, ap, ◌∙◌, subst, append_assoc, inl, inr, arith}
+use Rattle.std.proofs.Common.{◌≡◌, ℕ, ◌<◌, Bool, true, false, cond, Option, Some, None, List, [], ◌∷◌, ◌++◌, length, refl, sym, ap, ◌∙◌, subst, inl, inr, arith}
 use Rattle.std.specs.Prelude.{codes}
 use Rattle.mt_lexer.specs.declared.token.Symbol.TheVariants as symbol
 use Rattle.mt_lexer.specs.Tokens.{Lexeme, Word, Sign}
@@ -10,16 +10,17 @@ use Rattle.mt_tree.specs.declared.expression.Agg.{Agg}
 use Rattle.mt_tree.specs.declared.expression.Agg.TheVariants as agg
 use Rattle.mt_tree.specs.declared.expression.Atom.{Atom}
 use Rattle.mt_tree.specs.declared.expression.Atom.TheVariants as atom
-use Rattle.mt_reader.specs.Descent.{after, name_of, number_of, literal_of, is_reserved_name, begins_with_name, begins_with_word}
+use Rattle.mt_reader.specs.Descent.{after, name_of, number_of, literal_of, is_reserved_name, begins_with_name, begins_with_word, closed_of, bracketed_of}
 use Rattle.mt_reader.specs.Forms.{Bracketed}
 use Rattle.mt_reader.specs.Fronts.{Begins}
 use Rattle.mt_reader.specs.Literals.{SpellsLiteral}
 use Rattle.mt_lexer.specs.Reserved.{reserved}
+use Rattle.mt_reader.proofs.Bracketing.{brackets_append, closed_sound, bracketed_sound, bracketed_complete}
 use Rattle.mt_reader.proofs.Shrinking.{bind_some, same_tree, same_rest}
 use Rattle.mt_reader.proofs.Parts.{literal_sound}
 use Rattle.mt_reader.proofs.Spelling.{IsSound, IsComplete, IsCompleteBefore, after_is, name_is, Shrinks, sound_shrinks}
 use Rattle.mt_terms.specs.Expression.{SpellsNamed, SpellsColumn, Called, SpellsAgg, SpellsAtom}
-use Rattle.mt_terms.specs.Descent.{column_of, column_behind, argument_of, called_of, counted_of, counted_behind, min_behind, sum_behind, count_behind, agg_of, null_behind, reserved_atom_of, column_atom_of, literal_atom_of, atom_of}
+use Rattle.mt_terms.specs.Descent.{column_of, column_behind, called_of, counted_of, counted_behind, min_behind, sum_behind, count_behind, agg_of, null_behind, reserved_atom_of, column_atom_of, literal_atom_of, atom_of}
 
 -- no dot comes first
 abbrev pub NoDot : List Lexeme → Type 0
@@ -81,36 +82,16 @@ column_complete front more column end s = named_complete front more column.quali
 
 -- aggregates
 
--- what is read in brackets is a column in brackets
-argument_sound : IsSound (Bracketed SpellsColumn) argument_of
-unfolding argument_of
-argument_sound lexemes rest column e =
-    let a = bind_some (after (Sign symbol.Open) lexemes) _ (column, rest) e in
-    let b = bind_some (column_of a.0) _ (column, rest) a.2 in
-    let c = bind_some (after (Sign symbol.Close) b.0.1) _ (column, rest) b.2 in
-    let s = column_sound a.0 b.0.1 b.0.0 b.1 in
-    let front = Sign symbol.Open ∷ (s.front ++ Sign symbol.Close ∷ []) in
-    record {
-      front = front;
-      whole =
-          let last : c.0 ≡ rest = same_rest c.2 in
-          after_is _ lexemes a.0 a.1 ∙ ap (λ ls. Sign symbol.Open ∷ ls) (s.whole ∙ ap (λ ls. s.front ++ ls) (after_is _ b.0.1 c.0 c.1 ∙ ap (λ ls. Sign symbol.Close ∷ ls) last) ∙ sym (append_assoc s.front (Sign symbol.Close ∷ []) rest));
-      spelled = subst (Bracketed SpellsColumn front) (same_tree c.2) (record { inner = s.front; brackets = refl; body = s.spelled });
-    }
-
 -- a column in brackets is read
-argument_complete : IsComplete (Bracketed SpellsColumn) argument_of
-unfolding argument_of after
-argument_complete front more column s =
-    let read = column_complete s.inner (Sign symbol.Close ∷ more) column refl s.body in
-    let all : front ++ more ≡ Sign symbol.Open ∷ (s.inner ++ Sign symbol.Close ∷ more) = ap (λ ls. ls ++ more) s.brackets ∙ ap (λ ls. Sign symbol.Open ∷ ls) (append_assoc s.inner (Sign symbol.Close ∷ []) more) in
-    rw (all, read) refl
+argument_complete : IsComplete (Bracketed SpellsColumn) (bracketed_of column_of)
+unfolding after
+argument_complete = bracketed_complete SpellsColumn column_of NoDot (λ rest. refl) column_complete
 
 -- what is read behind the word of a function is a call of it
 called_sound : (word : List ℕ) (function : ColName → Agg) → ((tokens : List Lexeme) (column : ColName) → Called word tokens column → SpellsAgg tokens (function column)) → (lexemes left rest : List Lexeme) (found : Agg) → lexemes ≡ Word word ∷ left → called_of function left ≡ Some (found, rest) → Begins SpellsAgg lexemes rest found
 called_sound word function as_agg lexemes left rest found h e =
-    let a = bind_some (argument_of left) _ (found, rest) e in
-    let s = argument_sound left a.0.1 a.0.0 a.1 in
+    let a = bind_some (bracketed_of column_of left) _ (found, rest) e in
+    let s = bracketed_sound SpellsColumn column_of column_sound left a.0.1 a.0.0 a.1 in
     let front = Word word ∷ s.front in
     record {
       front = front;
@@ -123,27 +104,25 @@ counted_sound : (lexemes left rest : List Lexeme) (found : Agg) → lexemes ≡ 
 unfolding counted_of
 counted_sound lexemes left rest found h e =
     let a = bind_some (after (Sign symbol.Open) left) _ (found, rest) e in
-    behind a.0 (h ∙ ap (λ ls. Word (codes "count") ∷ ls) (after_is _ left a.0 a.1)) (after (Sign symbol.Star) a.0) refl a.2 where
-      behind : (mid : List Lexeme) → lexemes ≡ Word (codes "count") ∷ Sign symbol.Open ∷ mid → (star : Option (List Lexeme)) → after (Sign symbol.Star) mid ≡ star → counted_behind star mid ≡ Some (found, rest) → Begins SpellsAgg lexemes rest found
-      behind mid h (Some left) a e =
-          let b = bind_some (after (Sign symbol.Close) left) _ (found, rest) e in
+    behind a.0 (after_is _ left a.0 a.1) (after (Sign symbol.Star) a.0) refl a.2 where
+      behind : (mid : List Lexeme) → left ≡ Sign symbol.Open ∷ mid → (star : Option (List Lexeme)) → after (Sign symbol.Star) mid ≡ star → counted_behind star mid ≡ Some (found, rest) → Begins SpellsAgg lexemes rest found
+      behind mid o (Some star) a e =
+          let b = bind_some (after (Sign symbol.Close) star) _ (found, rest) e in
           let last : b.0 ≡ rest = same_rest b.2 in
           let front = Word (codes "count") ∷ Sign symbol.Open ∷ Sign symbol.Star ∷ Sign symbol.Close ∷ [] in
           record {
             front = front;
-            whole = h ∙ ap (λ ls. Word (codes "count") ∷ Sign symbol.Open ∷ ls) (after_is _ mid left a ∙ ap (λ ls. Sign symbol.Star ∷ ls) (after_is _ left b.0 b.1 ∙ ap (λ ls. Sign symbol.Close ∷ ls) last));
+            whole = h ∙ ap (λ ls. Word (codes "count") ∷ ls) (o ∙ ap (λ ls. Sign symbol.Open ∷ ls) (after_is _ mid star a ∙ ap (λ ls. Sign symbol.Star ∷ ls) (after_is _ star b.0 b.1 ∙ ap (λ ls. Sign symbol.Close ∷ ls) last)));
             spelled = subst (SpellsAgg front) (same_tree b.2) refl;
           }
-      behind mid h None a e =
-          let b = bind_some (column_of mid) _ (found, rest) e in
-          let c = bind_some (after (Sign symbol.Close) b.0.1) _ (found, rest) b.2 in
-          let last : c.0 ≡ rest = same_rest c.2 in
-          let s = column_sound mid b.0.1 b.0.0 b.1 in
-          let inner = Sign symbol.Open ∷ (s.front ++ Sign symbol.Close ∷ []) in
+      behind mid o None a e =
+          let b = bind_some (closed_of column_of mid) _ (found, rest) e in
+          let s = closed_sound SpellsColumn column_of column_sound left mid b.0.1 b.0.0 o b.1 in
+          let front = Word (codes "count") ∷ s.front in
           record {
-            front = Word (codes "count") ∷ inner;
-            whole = h ∙ ap (λ ls. Word (codes "count") ∷ Sign symbol.Open ∷ ls) (s.whole ∙ ap (λ ls. s.front ++ ls) (after_is _ b.0.1 c.0 c.1 ∙ ap (λ ls. Sign symbol.Close ∷ ls) last) ∙ sym (append_assoc s.front (Sign symbol.Close ∷ []) rest));
-            spelled = subst (SpellsAgg (Word (codes "count") ∷ inner)) (same_tree c.2) (record { inner = inner; prefix = refl; body = record { inner = s.front; brackets = refl; body = s.spelled } });
+            front = front;
+            whole = h ∙ ap (λ ls. Word (codes "count") ∷ ls) (s.whole ∙ ap (λ ls. s.front ++ ls) (same_rest b.2));
+            spelled = subst (SpellsAgg front) (same_tree b.2) (record { inner = s.front; prefix = refl; body = s.spelled });
           }
 
 -- where there is no SUM
@@ -201,7 +180,7 @@ agg_complete front more agg.CountAll s = rw s refl
 agg_complete front more (agg.Count column) s =
     let inner = s.body.inner in
     let all : front ++ more ≡ Word (codes "count") ∷ Sign symbol.Open ∷ (inner ++ Sign symbol.Close ∷ more) =
-    ap (λ ls. ls ++ more) (s.prefix ∙ ap (λ ls. Word (codes "count") ∷ ls) s.body.brackets) ∙ ap (λ ls. Word (codes "count") ∷ Sign symbol.Open ∷ ls) (append_assoc inner (Sign symbol.Close ∷ []) more) in
+    ap (λ ls. ls ++ more) (s.prefix ∙ ap (λ ls. Word (codes "count") ∷ ls) s.body.brackets) ∙ ap (λ ls. Word (codes "count") ∷ ls) (brackets_append inner more) in
     ap agg_of all ∙ count_complete inner more column s.body.body
 agg_complete front more (agg.Sum column) s = called_complete (codes "sum") agg.Sum (λ left. refl) front more column s
 agg_complete front more (agg.Min column) s = called_complete (codes "min") agg.Min (λ left. refl) front more column s

@@ -1,5 +1,5 @@
 -- Conditions: what is read is spelled so, and what is spelled so is read.
-use Rattle.std.proofs.Common.{◌≡◌, ℕ, zero, suc, ◌<◌, Option, Some, None, List, [], ◌∷◌, ◌++◌, length, refl, sym, ap, ◌∙◌, subst, append_assoc, length-append, inl, inr, arith}
+use Rattle.std.proofs.Common.{◌≡◌, ℕ, zero, suc, ◌<◌, Option, Some, None, List, ◌∷◌, ◌++◌, length, refl, sym, ap, ◌∙◌, subst, append_assoc, length-append, inl, inr, arith}
 use Rattle.std.specs.Option.{option_and_then}
 use Rattle.std.specs.Prelude.{codes}
 use Rattle.mt_lexer.specs.declared.token.Symbol.TheVariants as symbol
@@ -11,6 +11,7 @@ use Rattle.mt_reader.specs.Descent.{after, literal_of}
 use Rattle.mt_reader.specs.Forms.{Form, Joined}
 use Rattle.mt_reader.specs.Fronts.{Begins}
 use Rattle.mt_lexer.specs.Reserved.{reserved}
+use Rattle.mt_reader.proofs.Bracketing.{brackets_append, closed_sound, closed_read}
 use Rattle.mt_reader.proofs.Shrinking.{bind_some, same_tree, same_rest}
 use Rattle.mt_reader.proofs.Joining.{joined_sound, joined_complete_before}
 use Rattle.mt_reader.proofs.Spelling.{IsSound, IsCompleteBefore, Shrinks, sound_shrinks, separated_nonempty, after_is}
@@ -160,16 +161,8 @@ module _ (depth : ℕ) (lexemes rest : List Lexeme) (c : Cond) where
   -- behind a bracket
   bracket_sound : IsSound (SpellsOr (SpellsNeg depth)) (or_of (neg_of depth)) → (left : List Lexeme) → lexemes ≡ Sign symbol.Open ∷ left → open_behind (neg_of depth) (Some left) lexemes ≡ Some (c, rest) → Begins (SpellsNeg (suc depth)) lexemes rest c
   bracket_sound sound left h e =
-      let a = bind_some (or_of (neg_of depth) left) _ (c, rest) e in
-      let b = bind_some (after (Sign symbol.Close) a.0.1) _ (c, rest) a.2 in
-      let last : b.0 ≡ rest = same_rest b.2 in
-      let s = sound left a.0.1 a.0.0 a.1 in
-      let front = Sign symbol.Open ∷ (s.front ++ Sign symbol.Close ∷ []) in
-      record {
-        front = front;
-        whole = h ∙ ap (λ ls. Sign symbol.Open ∷ ls) (s.whole ∙ ap (λ ls. s.front ++ ls) (after_is _ a.0.1 b.0 b.1 ∙ ap (λ ls. Sign symbol.Close ∷ ls) last) ∙ sym (append_assoc s.front (Sign symbol.Close ∷ []) rest));
-        spelled = subst (SpellsNeg (suc depth) front) (same_tree b.2) (inr (inr (record { inner = s.front; brackets = refl; body = s.spelled })));
-      }
+      let s = closed_sound (SpellsOr (SpellsNeg depth)) (or_of (neg_of depth)) sound lexemes left rest c h e in
+      record { front = s.front; whole = s.whole; spelled = inr (inr s.spelled) }
 
   -- behind NOT
   not_sound : IsSound (SpellsNeg depth) (neg_of depth) → (left : List Lexeme) → lexemes ≡ Word (codes "not") ∷ left → neg_behind (neg_of depth) (Some left) lexemes ≡ Some (c, rest) → Begins (SpellsNeg (suc depth)) lexemes rest c
@@ -224,7 +217,7 @@ not_up depth inner more c read = ap (option_and_then (λ (found : Cond × List L
 -- brackets are read
 bracket_up : (depth : ℕ) (inner more : List Lexeme) (c : Cond) → or_of (neg_of depth) (inner ++ Sign symbol.Close ∷ more) ≡ Some (c, Sign symbol.Close ∷ more) → neg_of (suc depth) (Sign symbol.Open ∷ (inner ++ Sign symbol.Close ∷ more)) ≡ Some (c, more)
 unfolding neg_of after
-bracket_up depth inner more c read = ap (option_and_then (λ (found : Cond × List Lexeme). option_and_then (λ close. Some (found.0, close)) (after (Sign symbol.Close) found.1))) read
+bracket_up depth inner more c read = closed_read (SpellsOr (SpellsNeg depth)) (or_of (neg_of depth)) (inner ++ Sign symbol.Close ∷ more) more c read
 
 -- before a bracket that closes a condition ends
 ends_before_close : (rest : List Lexeme) → EndsOr (Sign symbol.Close ∷ rest)
@@ -242,8 +235,7 @@ neg_complete (suc depth) front more c end s = elim s [
       ∙ not_up depth n.2.inner more n.0 (neg_complete depth n.2.inner more n.0 end n.2.body)
       ∙ ap (λ tree. Some (tree, more)) (sym n.1)
   | inr (inr b) ↦
-      let all : front ++ more ≡ Sign symbol.Open ∷ (b.inner ++ Sign symbol.Close ∷ more) =
-      ap (λ ls. ls ++ more) b.brackets ∙ ap (λ ls. Sign symbol.Open ∷ ls) (append_assoc b.inner (Sign symbol.Close ∷ []) more) in
+      let all : front ++ more ≡ Sign symbol.Open ∷ (b.inner ++ Sign symbol.Close ∷ more) = ap (λ ls. ls ++ more) b.brackets ∙ brackets_append b.inner more in
       let read = or_complete (SpellsNeg depth) (neg_of depth) (neg_sound depth) (neg_nonempty depth) (neg_complete depth) b.inner (Sign symbol.Close ∷ more) c (ends_before_close more) b.body in
       ap (neg_of (suc depth)) all ∙ bracket_up depth b.inner more c read
 ]

@@ -10,6 +10,7 @@ use Rattle.mt_tree.specs.declared.expression.Term.{Term}
 use Rattle.mt_reader.specs.Descent.{after, literal_of, with_front}
 use Rattle.mt_reader.specs.Forms.{Form, Bracketed}
 use Rattle.mt_reader.specs.Fronts.{Begins}
+use Rattle.mt_reader.proofs.Bracketing.{brackets_append, closed_sound}
 use Rattle.mt_reader.proofs.Shrinking.{bind_some, same_tree, same_rest}
 use Rattle.mt_reader.proofs.Joining.{joined_sound, joined_complete_before}
 use Rattle.mt_reader.proofs.Spelling.{IsSound, IsCompleteBefore, Shrinks, sound_shrinks, separated_nonempty, after_is}
@@ -210,20 +211,6 @@ factor_nonempty : (depth : ℕ) (front : List Lexeme) (e : Expr) → SpellsFacto
 factor_nonempty zero front e s = atom_nonempty front s.0 s.2
 factor_nonempty (suc depth) front e s = elim s [ inl one ↦ atom_nonempty front one.0 one.2 | inr b ↦ bracketed_nonempty (SpellsSum (SpellsFactor depth)) front e b ]
 
--- what is read in brackets is a sum in brackets
-bracketed_sound : (form : Form Expr) (read : List Lexeme → Option (Expr × List Lexeme)) → IsSound form read → (lexemes left rest : List Lexeme) (e : Expr) → lexemes ≡ Sign symbol.Open ∷ left → factor_behind read (Some left) lexemes ≡ Some (e, rest) → Begins (Bracketed form) lexemes rest e
-bracketed_sound form read sound lexemes left rest e h r =
-    let a = bind_some (read left) _ (e, rest) r in
-    let b = bind_some (after (Sign symbol.Close) a.0.1) _ (e, rest) a.2 in
-    let last : b.0 ≡ rest = same_rest b.2 in
-    let s = sound left a.0.1 a.0.0 a.1 in
-    let front = Sign symbol.Open ∷ (s.front ++ Sign symbol.Close ∷ []) in
-    record {
-      front = front;
-      whole = h ∙ ap (λ ls. Sign symbol.Open ∷ ls) (s.whole ∙ ap (λ ls. s.front ++ ls) (after_is _ a.0.1 b.0 b.1 ∙ ap (λ ls. Sign symbol.Close ∷ ls) last) ∙ sym (append_assoc s.front (Sign symbol.Close ∷ []) rest));
-      spelled = subst (Bracketed form front) (same_tree b.2) (record { inner = s.front; brackets = refl; body = s.spelled });
-    }
-
 -- what is read as a factor is one
 pub factor_sound : (depth : ℕ) → IsSound (SpellsFactor depth) (factor_of depth)
 unfolding factor_of
@@ -232,7 +219,7 @@ factor_sound (suc depth) lexemes rest e h = by_open (sum_sound (SpellsFactor dep
   by_open : IsSound (SpellsSum (SpellsFactor depth)) (sum_of (factor_of depth)) → (found : Option (List Lexeme)) → after (Sign symbol.Open) lexemes ≡ found → factor_behind (sum_of (factor_of depth)) found lexemes ≡ Some (e, rest) → Begins (SpellsFactor (suc depth)) lexemes rest e
   by_open sound None a h = let s = alone_sound lexemes rest e h in record { front = s.front; whole = s.whole; spelled = inl s.spelled }
   by_open sound (Some left) a h =
-      let s = bracketed_sound (SpellsSum (SpellsFactor depth)) (sum_of (factor_of depth)) sound lexemes left rest e (after_is _ lexemes left a) h in
+      let s = closed_sound (SpellsSum (SpellsFactor depth)) (sum_of (factor_of depth)) sound lexemes left rest e (after_is _ lexemes left a) h in
       record { front = s.front; whole = s.whole; spelled = inr s.spelled }
 
 -- and so takes a lexeme at least
@@ -265,8 +252,7 @@ factor_complete zero front more e end s = alone_complete front more e end s
 factor_complete (suc depth) front more e end s = elim s [
   | inl one ↦ alone_factor depth (front ++ more) more e (alone_complete front more e end one)
   | inr b ↦
-      let all : front ++ more ≡ Sign symbol.Open ∷ (b.inner ++ Sign symbol.Close ∷ more) =
-      ap (λ ls. ls ++ more) b.brackets ∙ ap (λ ls. Sign symbol.Open ∷ ls) (append_assoc b.inner (Sign symbol.Close ∷ []) more) in
+      let all : front ++ more ≡ Sign symbol.Open ∷ (b.inner ++ Sign symbol.Close ∷ more) = ap (λ ls. ls ++ more) b.brackets ∙ brackets_append b.inner more in
       let read = sum_complete (SpellsFactor depth) (factor_of depth) (factor_complete depth) (factor_shrinks depth) b.inner (Sign symbol.Close ∷ more) e (ends_before_close more) b.body in
       ap (factor_of (suc depth)) all ∙ bracketed_factor depth b.inner more e read
 ]

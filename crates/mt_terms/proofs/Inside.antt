@@ -72,7 +72,7 @@ module _ {X A : Type 0} (P : A → Type 0) (f : X → List A) where
       All-append P (f x) (flat_map f xs) (All-head (λ x. All P (f x)) x xs h) (All-flat_map xs (All-tail (λ x. All P (f x)) x xs h))
 
   -- and the other way round
-  pub All-flat_map_parts : (xs : List X) → All P (flat_map f xs) → All (λ x. All P (f x)) xs
+  All-flat_map_parts : (xs : List X) → All P (flat_map f xs) → All (λ x. All P (f x)) xs
   All-flat_map_parts [] h = All-nil (λ x. All P (f x))
   All-flat_map_parts (x ∷ xs) h =
       let first : All P (f x) = subst (All P) (take-append_seam (f x) (flat_map f xs)) (All-take P (length (f x)) (f x ++ flat_map f xs) h) in
@@ -83,21 +83,21 @@ module _ {X A : Type 0} (P : A → Type 0) (f : X → List A) where
 pub inside_atom : (a : Atom) → IsAtomInside a → IsExprInside (expr.Atom a)
 inside_atom a h = rw (expr_literals-Atom a) h
 
-pub atom_inside : (a : Atom) → IsExprInside (expr.Atom a) → IsAtomInside a
+atom_inside : (a : Atom) → IsExprInside (expr.Atom a) → IsAtomInside a
 atom_inside a h = rw (expr_literals-Atom a) at h
 
 -- a sum is inside where its members are
 pub inside_sum : (ts : List Term) → All IsTermInside ts → IsExprInside (expr.Sum ts)
 inside_sum ts h = rw (expr_literals-Sum ts) (All-flat_map IsLiteralInside (λ t. expr_literals t.expr) ts h)
 
-pub sum_inside : (ts : List Term) → IsExprInside (expr.Sum ts) → All IsTermInside ts
+sum_inside : (ts : List Term) → IsExprInside (expr.Sum ts) → All IsTermInside ts
 sum_inside ts h = All-flat_map_parts IsLiteralInside (λ t. expr_literals t.expr) ts (rw (expr_literals-Sum ts) at h)
 
 -- a product is inside where its members are
 pub inside_product : (es : List Expr) → All IsExprInside es → IsExprInside (expr.Product es)
 inside_product es h = rw (expr_literals-Product es) (All-flat_map IsLiteralInside expr_literals es h)
 
-pub product_inside : (es : List Expr) → IsExprInside (expr.Product es) → All IsExprInside es
+product_inside : (es : List Expr) → IsExprInside (expr.Product es) → All IsExprInside es
 product_inside es h = All-flat_map_parts IsLiteralInside expr_literals es (rw (expr_literals-Product es) at h)
 
 -- terms that are joined are inside where all are

@@ -7,11 +7,12 @@ use Rattle.mt_lexer.specs.Tokens.{Lexeme, Word, Number, Quoted, Sign}
 use Rattle.mt_value.specs.declared.truth.Cmp.{Cmp}
 use Rattle.mt_value.specs.declared.truth.Cmp.TheVariants.{Eq, Ne, Lt, Le, Gt, Ge}
 use Rattle.mt_tree.specs.declared.expression.Atom.{Atom}
-use Rattle.mt_reader.specs.Descent.{after, first_symbol, separated_of}
-use Rattle.mt_reader.specs.Forms.{Separated, Bracketed, Behind}
+use Rattle.mt_reader.specs.Descent.{after, first_symbol, separated_of, bracketed_of}
+use Rattle.mt_reader.specs.Forms.{Bracketed, Behind, Commas}
 use Rattle.mt_reader.specs.Fronts.{Begins}
+use Rattle.mt_reader.proofs.Bracketing.{items_in_brackets_sound, items_in_brackets_complete}
 use Rattle.mt_reader.proofs.Shrinking.{bind_some, same_tree, same_rest}
-use Rattle.mt_reader.proofs.Spelling.{IsSound, IsCompleteBefore, after_is, separated_sound, separated_complete_before}
+use Rattle.mt_reader.proofs.Spelling.{IsSound, IsCompleteBefore, after_is}
 use Rattle.mt_terms.specs.declared.test.Test.{Test}
 use Rattle.mt_terms.specs.declared.test.Test.TheVariants as test
 use Rattle.mt_terms.specs.Condition.{symbol_of, SpellsNot, AtomThen, NotThen, WordThen}
@@ -22,7 +23,7 @@ use Rattle.mt_terms.proofs.Atoms.{NoDot, atom_sound, atom_complete, atom_shrinks
 -- what stands behind the first atom of a predicate
 abbrev pub SpellsTest : List Lexeme → Test → Type 0
 SpellsTest tokens (test.Compare op right) = Behind (Sign (symbol_of op) ∷ []) SpellsAtom tokens right
-SpellsTest tokens (test.Member negated list) = NotThen negated (WordThen (codes "in") (λ back. Bracketed (Separated SpellsAtom (Sign symbol.Comma)) back list)) tokens
+SpellsTest tokens (test.Member negated list) = NotThen negated (WordThen (codes "in") (λ back. Bracketed (Commas SpellsAtom) back list)) tokens
 SpellsTest tokens (test.Between negated low high) = NotThen negated (WordThen (codes "between") (AtomThen low (λ back. Behind (Word (codes "and") ∷ []) SpellsAtom back high))) tokens
 SpellsTest tokens (test.Like negated pattern) = NotThen negated (λ back. Behind (Word (codes "like") ∷ []) SpellsAtom back pattern) tokens
 SpellsTest tokens (test.IsNull negated) = WordThen (codes "is") (NotThen negated (λ tokens. tokens ≡ Word (codes "null") ∷ [])) tokens
@@ -95,24 +96,19 @@ spells_not false = refl
 member_sound : (negated : Bool) (lexemes left rest : List Lexeme) (t : Test) → lexemes ≡ not_front negated ++ Word (codes "in") ∷ left → member_of negated left ≡ Some (t, rest) → Begins SpellsTest lexemes rest t
 unfolding member_of
 member_sound negated lexemes left rest t h e =
-    let a = bind_some (after (Sign symbol.Open) left) _ (t, rest) e in
-    let b = bind_some (separated_of atom_of (Sign symbol.Comma) a.0) _ (t, rest) a.2 in
-    let c = bind_some (after (Sign symbol.Close) b.0.1) _ (t, rest) b.2 in
-    let last : c.0 ≡ rest = same_rest c.2 in
-    let s = separated_sound SpellsAtom atom_of (Sign symbol.Comma) atom_sound a.0 b.0.1 b.0.0 b.1 in
-    let list = Sign symbol.Open ∷ (s.front ++ Sign symbol.Close ∷ []) in
-    let back = Word (codes "in") ∷ list in
-    let taken : left ≡ list ++ rest =
-    after_is _ left a.0 a.1 ∙ ap (λ ls. Sign symbol.Open ∷ ls) (s.whole ∙ ap (λ ls. s.front ++ ls) (after_is _ b.0.1 c.0 c.1 ∙ ap (λ ls. Sign symbol.Close ∷ ls) last) ∙ sym (append_assoc s.front (Sign symbol.Close ∷ []) rest)) in
+    let a = bind_some (bracketed_of (separated_of atom_of (Sign symbol.Comma)) left) _ (t, rest) e in
+    let s = items_in_brackets_sound SpellsAtom atom_of atom_sound left a.0.1 a.0.0 a.1 in
+    let back = Word (codes "in") ∷ s.front in
+    let taken : left ≡ s.front ++ rest = s.whole ∙ ap (λ ls. s.front ++ ls) (same_rest a.2) in
     record {
       front = not_front negated ++ back;
       whole = h ∙ ap (λ ls. not_front negated ++ Word (codes "in") ∷ ls) taken ∙ sym (append_assoc (not_front negated) back rest);
-      spelled = subst (SpellsTest (not_front negated ++ back)) (same_tree c.2) (record {
+      spelled = subst (SpellsTest (not_front negated ++ back)) (same_tree a.2) (record {
         front = not_front negated;
         back = back;
         split = refl;
         is_left = spells_not negated;
-        is_right = record { front = Word (codes "in") ∷ []; back = list; split = refl; is_left = refl; is_right = record { inner = s.front; brackets = refl; body = s.spelled } };
+        is_right = record { front = Word (codes "in") ∷ []; back = s.front; split = refl; is_left = refl; is_right = s.spelled };
       });
     }
 
@@ -263,11 +259,10 @@ unfolding test_of
 compare_complete op rest more right read = rw (compare_read op rest, read) refl
 
 -- a list is read
-member_complete : (negated : Bool) (inner more : List Lexeme) (list : List Atom) → Separated SpellsAtom (Sign symbol.Comma) inner list → member_of negated (Sign symbol.Open ∷ (inner ++ Sign symbol.Close ∷ more)) ≡ Some (test.Member negated list, more)
+member_complete : (negated : Bool) (front more : List Lexeme) (list : List Atom) → Bracketed (Commas SpellsAtom) front list → member_of negated (front ++ more) ≡ Some (test.Member negated list, more)
 unfolding member_of after
-member_complete negated inner more list s =
-    let read = separated_complete_before SpellsAtom atom_of (Sign symbol.Comma) NoDot refl (λ rest. refl) atom_complete atom_shrinks inner (Sign symbol.Close ∷ more) list refl refl s in
-    rw read refl
+member_complete negated front more list s =
+    rw (items_in_brackets_complete SpellsAtom atom_of NoDot (λ rest. refl) (λ rest. refl) atom_complete atom_shrinks front more list s) refl
 
 -- two bounds are read
 between_complete : (negated : Bool) (first second more : List Lexeme) (low high : Atom) → NoDot more → SpellsAtom first low → SpellsAtom second high → between_of negated (first ++ Word (codes "and") ∷ (second ++ more)) ≡ Some (test.Between negated low high, more)
@@ -293,13 +288,10 @@ pub test_complete : IsCompleteBefore SpellsTest NoDot test_of
 test_complete front more (test.Compare op right) end s =
     ap (λ ls. test_of (ls ++ more)) s.prefix ∙ compare_complete op (s.inner ++ more) more right (atom_complete s.inner more right end s.body)
 test_complete front more (test.Member negated list) end s =
-    let b = s.is_right.is_right in
-    let back : s.back ++ more ≡ Word (codes "in") ∷ Sign symbol.Open ∷ (b.inner ++ Sign symbol.Close ∷ more) =
-    ap (λ ls. ls ++ more) (s.is_right.split ∙ ap (λ ls. ls ++ s.is_right.back) s.is_right.is_left ∙ ap (λ ls. Word (codes "in") ∷ ls) b.brackets)
-    ∙ ap (λ ls. Word (codes "in") ∷ Sign symbol.Open ∷ ls) (append_assoc b.inner (Sign symbol.Close ∷ []) more) in
-    let all : front ++ more ≡ s.front ++ Word (codes "in") ∷ Sign symbol.Open ∷ (b.inner ++ Sign symbol.Close ∷ more) =
-    ap (λ ls. ls ++ more) s.split ∙ append_assoc s.front s.back more ∙ ap (λ ls. s.front ++ ls) back in
-    ap test_of all ∙ in_test negated s.front (Sign symbol.Open ∷ (b.inner ++ Sign symbol.Close ∷ more)) s.is_left ∙ member_complete negated b.inner more list b.body
+    let list_tokens = s.is_right.back in
+    let back : s.back ++ more ≡ Word (codes "in") ∷ (list_tokens ++ more) = ap (λ ls. ls ++ more) (s.is_right.split ∙ ap (λ ls. ls ++ list_tokens) s.is_right.is_left) in
+    let all : front ++ more ≡ s.front ++ Word (codes "in") ∷ (list_tokens ++ more) = ap (λ ls. ls ++ more) s.split ∙ append_assoc s.front s.back more ∙ ap (λ ls. s.front ++ ls) back in
+    ap test_of all ∙ in_test negated s.front (list_tokens ++ more) s.is_left ∙ member_complete negated list_tokens more list s.is_right.is_right
 test_complete front more (test.Between negated low high) end s =
     let p = s.is_right.is_right in
     let h = p.is_right in

@@ -1,14 +1,14 @@
 -- Conditions. Brackets and NOT nest, and a depth counts both.
-use Rattle.std.specs.Prelude.{◌≡◌, ◌⊎◌, ℕ, zero, suc, Bool, List, [], ◌∷◌, codes}
+use Rattle.std.specs.Prelude.{◌≡◌, ◌⊎◌, ℕ, zero, suc, Bool, Option, List, [], ◌∷◌, codes}
 use Rattle.mt_lexer.specs.Tokens.{Lexeme, Word, Sign}
 use Rattle.mt_lexer.specs.declared.token.Symbol.{Symbol}
-use Rattle.mt_lexer.specs.declared.token.Symbol.TheVariants.{Comma, Equal, NotEqual, Less, LessEqual, Greater, GreaterEqual}
+use Rattle.mt_lexer.specs.declared.token.Symbol.TheVariants.{Equal, NotEqual, Less, LessEqual, Greater, GreaterEqual}
 use Rattle.mt_value.specs.declared.truth.Cmp.{Cmp}
 use Rattle.mt_value.specs.declared.truth.Cmp.TheVariants.{Eq, Ne, Lt, Le, Gt, Ge}
 use Rattle.mt_tree.specs.declared.expression.Atom.{Atom}
 use Rattle.mt_tree.specs.declared.expression.Cond.{Cond}
 use Rattle.mt_tree.specs.declared.expression.Cond.TheVariants as cond
-use Rattle.mt_reader.specs.Forms.{Form, Joined, Separated, Bracketed, Behind, Parts, Just, Flag}
+use Rattle.mt_reader.specs.Forms.{Form, Joined, Commas, Bracketed, Behind, Parts, Just, Maybe, Flag, word}
 use Rattle.mt_terms.specs.Expression.{SpellsAtom}
 
 -- '=' | '<>' | '<' | '<=' | '>' | '>='
@@ -40,7 +40,7 @@ WordThen word more tokens = Parts (Just (Word word ∷ [])) more tokens
 -- | atom [NOT] LIKE atom | atom IS [NOT] NULL
 abbrev pub SpellsPlain : List Lexeme → Cond → Type 0
 SpellsPlain tokens (cond.Compare op left right) = AtomThen left (λ back. Behind (Sign (symbol_of op) ∷ []) SpellsAtom back right) tokens
-SpellsPlain tokens (cond.Member negated atom list) = AtomThen atom (NotThen negated (WordThen (codes "in") (λ back. Bracketed (Separated SpellsAtom (Sign Comma)) back list))) tokens
+SpellsPlain tokens (cond.Member negated atom list) = AtomThen atom (NotThen negated (WordThen (codes "in") (λ back. Bracketed (Commas SpellsAtom) back list))) tokens
 SpellsPlain tokens (cond.Between negated atom low high) = AtomThen atom (NotThen negated (WordThen (codes "between") (AtomThen low (λ back. Behind (Word (codes "and") ∷ []) SpellsAtom back high)))) tokens
 SpellsPlain tokens (cond.Like negated atom pattern) = AtomThen atom (NotThen negated (λ back. Behind (Word (codes "like") ∷ []) SpellsAtom back pattern)) tokens
 SpellsPlain tokens (cond.IsNull negated atom) = AtomThen atom (WordThen (codes "is") (NotThen negated (Just (Word (codes "null") ∷ [])))) tokens
@@ -62,3 +62,7 @@ SpellsNeg (suc depth) tokens c = SpellsPlain tokens c ⊎ (SpellsNegated (Spells
 -- a condition, with 64 brackets and NOT about one another at most
 unfoldable pub SpellsCond : List Lexeme → Cond → Type 0
 SpellsCond tokens c = SpellsOr (SpellsNeg 64) tokens c
+
+-- [WHERE cond]
+abbrev pub SpellsWhere : List Lexeme → Option Cond → Type 0
+SpellsWhere tokens cond = Maybe (Behind (word (codes "where")) SpellsCond) tokens cond

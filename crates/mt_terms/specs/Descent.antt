@@ -16,7 +16,7 @@ use Rattle.mt_tree.specs.declared.expression.Expr.TheVariants as expr
 use Rattle.mt_tree.specs.declared.expression.Term.{Term}
 use Rattle.mt_tree.specs.declared.expression.Cond.{Cond}
 use Rattle.mt_tree.specs.declared.expression.Cond.TheVariants as cond
-use Rattle.mt_reader.specs.Descent.{◌>>=◌, after, name_of, literal_of, begins_with_name, begins_with_word, first_symbol, with_front, separated_of, joined_of}
+use Rattle.mt_reader.specs.Descent.{◌>>=◌, after, name_of, literal_of, begins_with_name, begins_with_word, first_symbol, with_front, separated_of, joined_of, closed_of, bracketed_of}
 use Rattle.mt_terms.specs.declared.test.Test.{Test}
 use Rattle.mt_terms.specs.declared.test.Test.TheVariants as test
 use Rattle.mt_terms.specs.declared.members.Members.{Members}
@@ -35,18 +35,10 @@ column_of lexemes = do
   name ← name_of lexemes
   column_behind name.0 (after (Sign symbol.Dot) name.1) name.1
 
--- a column in brackets
-unfoldable pub argument_of : List Lexeme → Option (ColName × List Lexeme)
-argument_of lexemes = do
-  open_ ← after (Sign symbol.Open) lexemes
-  column ← column_of open_
-  rest ← after (Sign symbol.Close) column.1
-  Some (column.0, rest)
-
 -- behind the word of a function
 abbrev pub called_of : (ColName → Agg) → List Lexeme → Option (Agg × List Lexeme)
 called_of function lexemes = do
-  column ← argument_of lexemes
+  column ← bracketed_of column_of lexemes
   Some (function column.0, column.1)
 
 -- behind COUNT and a bracket: the star, or a column
@@ -55,9 +47,8 @@ counted_behind (Some star) lexemes = do
   rest ← after (Sign symbol.Close) star
   Some (agg.CountAll, rest)
 counted_behind None lexemes = do
-  column ← column_of lexemes
-  rest ← after (Sign symbol.Close) column.1
-  Some (agg.Count column.0, rest)
+  column ← closed_of column_of lexemes
+  Some (agg.Count column.0, column.1)
 
 -- behind COUNT
 unfoldable pub counted_of : List Lexeme → Option (Agg × List Lexeme)
@@ -174,10 +165,7 @@ sum_of factor lexemes = do
 -- in brackets, where one opens
 abbrev pub factor_behind : (List Lexeme → Option (Expr × List Lexeme)) → Option (List Lexeme) → List Lexeme → Option (Expr × List Lexeme)
 factor_behind sum None lexemes = alone_of lexemes
-factor_behind sum (Some rest) lexemes = do
-  inner ← sum rest
-  close ← after (Sign symbol.Close) inner.1
-  Some (inner.0, close)
+factor_behind sum (Some rest) lexemes = closed_of sum rest
 
 -- a factor, with so many brackets about one another at most
 unfoldable pub factor_of : ℕ → List Lexeme → Option (Expr × List Lexeme)
@@ -216,10 +204,8 @@ both make (Some a) (Some b) = Some (make a b)
 -- behind IN
 unfoldable pub member_of : Bool → List Lexeme → Option (Test × List Lexeme)
 member_of negated lexemes = do
-  open_ ← after (Sign symbol.Open) lexemes
-  list ← separated_of atom_of (Sign symbol.Comma) open_
-  rest ← after (Sign symbol.Close) list.1
-  Some (test.Member negated list.0, rest)
+  list ← bracketed_of (separated_of atom_of (Sign symbol.Comma)) lexemes
+  Some (test.Member negated list.0, list.1)
 
 -- behind BETWEEN
 unfoldable pub between_of : Bool → List Lexeme → Option (Test × List Lexeme)
@@ -315,10 +301,7 @@ or_of neg lexemes = joined_of (and_of neg) (Word (codes "or")) cond.Or lexemes
 -- in brackets, where one opens
 abbrev pub open_behind : (List Lexeme → Option (Cond × List Lexeme)) → Option (List Lexeme) → List Lexeme → Option (Cond × List Lexeme)
 open_behind neg None lexemes = plain_of lexemes
-open_behind neg (Some rest) lexemes = do
-  inner ← or_of neg rest
-  close ← after (Sign symbol.Close) inner.1
-  Some (inner.0, close)
+open_behind neg (Some rest) lexemes = closed_of (or_of neg) rest
 
 -- behind NOT, where one stands
 abbrev pub neg_behind : (List Lexeme → Option (Cond × List Lexeme)) → Option (List Lexeme) → List Lexeme → Option (Cond × List Lexeme)

@@ -1,7 +1,8 @@
 ghost use Rattle.std.specs.Prelude.{◌≡◌, [], ◌∷◌};
 ghost use Rattle.mt_lexer.specs.Tokens.{Sign};
 ghost use Rattle.mt_reader.specs.Taken.{Takes};
-ghost use Rattle.mt_terms.specs.Descent.{column_of, argument_of};
+ghost use Rattle.mt_reader.specs.Descent.{bracketed_of};
+ghost use Rattle.mt_terms.specs.Descent.{column_of};
 
 use mt_lexer::Symbol;
 use mt_reader::{ReadFault, Reader};
@@ -28,9 +29,9 @@ pub(crate) fn column(alloc: Global, reader: &mut Reader<'_>) -> Result<ColName, 
 }
 
 /// Takes a column in brackets.
-#[tactic(auto, unfolding(crate::specs::Descent::argument_of))]
+#[tactic(auto, unfolding(mt_reader::specs::Descent::bracketed_of))]
 pub(crate) fn argument(alloc: Global, reader: &mut Reader<'_>) -> Result<ColName, ReadFault>
-    ensures { Takes result (λ column. (column, reader.new)) (argument_of reader.old) }
+    ensures { Takes result (λ column. (column, reader.new)) (bracketed_of column_of reader.old) }
 {
     reader.symbol(Symbol::Open)?;
     let column = column(alloc, reader)?;

@@ -7,7 +7,7 @@ use crate::form::AtomForm;
 use crate::leaf::atom;
 use mt_lexer::Symbol;
 use mt_list::List;
-use mt_reader::{ReadFault, Reader, separated};
+use mt_reader::{ReadFault, Reader, bracketed};
 use mt_tree::Atom;
 use mt_value::Cmp;
 use sqlite_items::Items;
@@ -104,9 +104,7 @@ fn worded(alloc: Global, reader: &mut Reader<'_>, negated: bool) -> Result<Optio
 fn member(alloc: Global, reader: &mut Reader<'_>, negated: bool) -> Result<Option<Test>, ReadFault>
     ensures { TakesInside IsTestInside result reader.new (member_of negated reader.old) }
 {
-    reader.symbol(Symbol::Open)?;
-    let list = separated::<AtomForm>(alloc, reader)?;
-    reader.symbol(Symbol::Close)?;
+    let list = bracketed::<AtomForm>(alloc, reader)?;
     Ok(listed(negated, list))
 }
 

@@ -111,16 +111,9 @@ fn cmp_text(op: Cmp) -> &'static str {
 /// Each AND and OR in brackets, in front of its members.
 fn show_cond(out: &mut String, cond: &Cond) -> Result<(), AllocError> {
     match cond {
-        Cond::Or(members) => {
-            out.push_str("[or")?;
-            for member in members.as_slice() {
-                out.push_str(" ")?;
-                show_cond(out, member)?;
-            }
-            out.push_str("]")
-        }
-        Cond::And(members) => {
-            out.push_str("[and")?;
+        Cond::Or(members) | Cond::And(members) => {
+            let is_or = matches!(cond, Cond::Or(_));
+            out.push_str(if is_or { "[or" } else { "[and" })?;
             for member in members.as_slice() {
                 out.push_str(" ")?;
                 show_cond(out, member)?;

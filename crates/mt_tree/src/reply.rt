@@ -1,9 +1,9 @@
-ghost use Rattle.std.specs.Prelude.{◌≡◌, [], ◌∷◌, ◌++◌, IfOk, IfNone, IfSome, OnOk, OnErr};
+ghost use Rattle.std.specs.Prelude.{◌≡◌, [], ◌∷◌, ◌++◌, IfOk, OnOk, OnErr};
 ghost use Rattle.std.specs.Fmt.{decimal, signed_decimal};
 ghost use Rattle.mt_value.specs.Printed.{value_text, doubled};
 
 use crate::Code;
-use mt_value::Value;
+use mt_value::{Value, split_quote};
 use std::alloc::{AllocError, Global};
 use std::marker::Model;
 
@@ -56,7 +56,7 @@ impl ReplyText {
         match value {
             Value::Null => self.push_bytes(b"NULL"),
             Value::Int(number) => self.push_number(*number),
-            Value::Text(text) => self.push_quoted(text.as_str().as_bytes()),
+            Value::Text(text) => self.push_quoted(text.as_str()),
         }
     }
 
@@ -78,17 +78,17 @@ impl ReplyText {
     }
 
     // Adds a text in single quotes: the pieces between its quotes, with each quote twice.
-    fn push_quoted(&mut self, text: &[u8]) -> Result<(), AllocError>
+    fn push_quoted(&mut self, text: &str) -> Result<(), AllocError>
         ensures { OnOk result (self.new ≡ self.old ++ 39 ∷ (doubled text.now ++ 39 ∷ [])) }
     {
         self.push_bytes(b"'")?;
         let mut rest = text;
         while let Some((front, behind)) = split_quote(rest) {
-            self.push_bytes(front)?;
+            self.push_bytes(front.as_bytes())?;
             self.push_bytes(b"''")?;
             rest = behind;
         }
-        self.push_bytes(rest)?;
+        self.push_bytes(rest.as_bytes())?;
         self.push_bytes(b"'")
     }
 
@@ -98,16 +98,6 @@ impl ReplyText {
     {
         self.bytes.as_slice()
     }
-}
-
-// What stands in front of the first quote, and what behind it. `None` where there is no quote.
-fn split_quote(bytes: &[u8]) -> Option<(&[u8], &[u8])>
-    ensures none { IfNone result (doubled bytes.now ≡ bytes.now) }
-    ensures parts { IfSome result (λ parts. bytes.now ≡ parts.0.now ++ 39 ∷ parts.1.now) }
-    ensures front { IfSome result (λ parts. doubled parts.0.now ≡ parts.0.now) }
-{
-    let at = memchr::memchr(b'\'', bytes)?;
-    Some((&bytes[..at], &bytes[at + 1..]))
 }
 
 /// The answer to one line.

@@ -4,12 +4,14 @@
 #![tactic(auto)]
 
 mod order;
+mod quotes;
 mod sort;
 mod text;
 mod truth;
 mod value;
 
 pub use order::{compare, orders_are_total, row_order, value_order};
+pub use quotes::split_quote;
 pub use sort::sort_rows;
 pub use text::{Str, StrFault};
 pub use truth::{Cmp, Truth, and, logic_is_symmetric, not, or};

@@ -1,6 +1,6 @@
 use crate::{
     Cmp, Row, Rows, Str, StrFault, Truth, Value, and, compare, logic_is_symmetric, not, or,
-    orders_are_total, row_order, sort_rows, value_order,
+    orders_are_total, row_order, sort_rows, split_quote, value_order,
 };
 use mt_list::List;
 use std::alloc::Global;
@@ -177,6 +177,28 @@ fn sorts_rows(rt: HostRuntime) -> Result<(), Fail> {
         assert_eq!(rt; a.as_slice(), b.as_slice());
         assert_eq!(rt; a.len(), b.len());
         assert_eq!(rt; row_order(a, b), Ordering::Equal);
+    }
+    Ok(())
+}
+
+#[test]
+fn splits_at_the_first_quote(rt: HostRuntime) {
+    for (text, want) in [
+        ("", None),
+        ("ab", None),
+        ("'", Some(("", ""))),
+        ("it's Zoë's", Some(("it", "s Zoë's"))),
+        ("''", Some(("", "'"))),
+    ] {
+        assert_eq!(rt; split_quote(text), want, "of {text}");
+    }
+}
+
+#[test]
+fn makes_texts_of_characters(rt: HostRuntime) -> Result<(), Fail> {
+    for text in ["", "a", "Zoë's"] {
+        let made = Str::from_str(rt.alloc(), text)?;
+        assert_eq!(rt; made.as_str(), text);
     }
     Ok(())
 }

@@ -44,6 +44,15 @@ impl Model for Str {
 impl Str {
     ghost use Rattle.std.specs.Str.{IsUtf8};
 
+    /// A text of these characters. `AllocError` is want of memory.
+    pub fn from_str(alloc: Global, text: &str) -> Result<Str, AllocError>
+        ensures { IfOk result (λ made. made ≡ text.now) }
+    {
+        Ok(Str {
+            text: String::from_str(alloc, text)?,
+        })
+    }
+
     /// The text of these bytes: `NotUtf8` exactly where they are not UTF-8, `Memory` for want of memory.
     pub fn from_bytes(alloc: Global, bytes: &[u8]) -> Result<Str, StrFault>
         ensures text { IfOk result (λ text. text ≡ bytes.now) }
@@ -51,9 +60,7 @@ impl Str {
         ensures not_utf8 { IsErrOf result StrFault.NotUtf8 ↔ ¬ (IsUtf8 bytes.now) }
     {
         match str::from_utf8(bytes) {
-            Ok(text) => Ok(Str {
-                text: String::from_str(alloc, text)?,
-            }),
+            Ok(text) => Ok(Str::from_str(alloc, text)?),
             Err(_) => Err(StrFault::NotUtf8),
         }
     }

@@ -11,6 +11,6 @@ returns c =
     let list = c.in_ok-list.ensures in
     record {
       tree = test.Member c.args.negated list.tree;
-      reads = rw (c.in_ok-symbol.ensures, list.reads, c.in_ok-symbol-2.ensures) refl;
+      reads = rw list.reads refl;
       keeps = rw c.listed.ensures (keeps_member c.args.negated c.in_ok-list.list list.tree list.keeps);
     }

@@ -16,4 +16,4 @@ returns c = λ lexemes e.
     let text = c.as_str.result.now in
     let whole : text ≡ c.args.self = c.as_str.ensures.value ∙ c.self.view_is in
     let behind = behind_space text c.without_space.result.now c.without_space.ensures.space c.without_space.ensures.empty lexemes (whole ∙ e) in
-    subst (λ bytes. IfOk c.owned.result (λ made. made ≡ bytes)) behind c.owned.ensures
+    subst (λ bytes. IfOk c.from_str.result (λ made. made ≡ bytes)) behind c.from_str.ensures

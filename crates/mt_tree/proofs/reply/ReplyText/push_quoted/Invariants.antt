@@ -1,10 +1,12 @@
 -- What is pushed so far, and the rest with its quotes doubled, is the quote and the whole text so.
+use denote.Shadow.{shadow}
+use denote.Text.{Utf8}
 use Rattle.std.proofs.Common.{◌≡◌, ◌∷◌, ◌++◌, length}
 use Rattle.mt_value.specs.Printed.{doubled}
 use Rattle.mt_tree.proofs.reply.ReplyText.push_quoted.Given as goal
 
 abbrev pub invariant-loop-front : goal.invariant-loop-front
-invariant-loop-front l = l.self ++ doubled l.rest ≡ l.fn.self ++ 39 ∷ doubled l.text
+invariant-loop-front l = (l.self ++ doubled l.rest ≡ l.fn.self ++ 39 ∷ doubled l.text) × shadow (Utf8 l.rest)
 
 abbrev pub decreases-loop-front : goal.decreases-loop-front
 decreases-loop-front l = length l.rest

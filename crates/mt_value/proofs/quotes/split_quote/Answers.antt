@@ -3,9 +3,9 @@ use denote.Ref.{Bor}
 use Rattle.std.proofs.Common.{◌≡◌, ◌≢◌, ℕ, ◌<◌, List, ◌∷◌, ◌++◌, Option, Some, None, length, get_or, lit<}
 use Rattle.std.specs.Option.{MatchOption, IfNone, IfSome}
 use Rattle.std.proofs.lemmas.Str.Pattern.{split_parts}
-use Rattle.mt_lexer.specs.Tokens.{doubled}
-use Rattle.mt_printer.proofs.Quotes.{doubled_nowhere}
-use Rattle.mt_printer.proofs.printer.split_quote.Goals as goal
+use Rattle.mt_value.specs.Printed.{doubled}
+use Rattle.mt_value.proofs.Doubling.{doubled_nowhere}
+use Rattle.mt_value.proofs.quotes.split_quote.Goals as goal
 
 -- what a cut at the first quote tells
 abbrev Cut : List ℕ → Option (Bor (List ℕ) × Bor (List ℕ)) → Type 0
