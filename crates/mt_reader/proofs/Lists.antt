@@ -43,7 +43,7 @@ pub record SoFar {X : Type 0} (item : List Lexeme → Option (X × List Lexeme))
   pub keeps : Keeps (All inside) items front
 
 -- one more item, where there is fuel
-items_of-item : {X : Type 0} (item : List Lexeme → Option (X × List Lexeme)) (by : Lexeme) (fuel : ℕ) (left mid : List Lexeme) (x : X) → item left ≡ Some (x, mid) → items_of item by (suc fuel) left ≡ with_front (x ∷ []) (items_behind (items_of item by fuel) mid (after by mid))
+pub items_of-item : {X : Type 0} (item : List Lexeme → Option (X × List Lexeme)) (by : Lexeme) (fuel : ℕ) (left mid : List Lexeme) (x : X) → item left ≡ Some (x, mid) → items_of item by (suc fuel) left ≡ with_front (x ∷ []) (items_behind (items_of item by fuel) mid (after by mid))
 items_of-item item by fuel left mid x e = ap (option_and_then (λ (first : _ × List Lexeme). with_front (first.0 ∷ []) (items_behind (items_of item by fuel) first.1 (after by first.1)))) e
 
 -- before the first item

@@ -157,6 +157,16 @@ impl<'t> Reader<'t> {
         }
     }
 
+    /// Whether this symbol is the first piece.
+    pub fn is_at_symbol(&self, symbol: Symbol) -> bool
+        ensures { result ≡ is_some (after (Sign symbol) self.now) }
+    {
+        match self.peek() {
+            Some(first) => first.is_symbol(symbol),
+            None => false,
+        }
+    }
+
     /// The symbol that comes first, if one does.
     pub fn first_symbol(&self) -> Option<Symbol>
         ensures { result ≡ first_symbol self.now }

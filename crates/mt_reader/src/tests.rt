@@ -8,7 +8,7 @@ use std::test::Fail;
 fn show(out: &mut String, alloc: Global, reader: &mut Reader<'_>) -> Result<(), ReadFault> {
     let names = separated::<NameForm>(alloc, reader)?;
     let alias = optional::<NameForm>(alloc, reader, b"as")?;
-    let in_brackets = matches!(reader.first_symbol(), Some(Symbol::Open));
+    let in_brackets = reader.is_at_symbol(Symbol::Open);
     let literals = if in_brackets {
         bracketed::<LiteralForm>(alloc, reader)?
     } else {

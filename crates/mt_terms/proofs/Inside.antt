@@ -18,13 +18,12 @@ use Rattle.mt_tree.specs.declared.expression.Cond.TheVariants as cond
 use Rattle.mt_tree.specs.declared.expression.Cond.TheVariants.{rolls-Or, rolls-And, rolls-Not, rolls-Compare, rolls-Member, rolls-Between, rolls-Like, rolls-IsNull}
 use Rattle.mt_tree.specs.declared.expression.Cond.TheOpen.{Cond-F}
 use Rattle.mt_tree.specs.declared.expression.Cond.TheFolds.{fold-Cond, fold-roll-Cond}
-use Rattle.mt_reader.specs.Descent.{joined_tree}
 use Rattle.mt_reader.specs.Literals.{IsLiteralInside}
 use Rattle.mt_reader.specs.Taken.{Keeps}
 use Rattle.mt_reader.proofs.Fronts.{keeps_map}
 use Rattle.mt_terms.specs.declared.test.Test.{Test}
 use Rattle.mt_terms.specs.declared.test.Test.TheVariants as test
-use Rattle.mt_terms.specs.Descent.{sum_tree, both, cond_with}
+use Rattle.mt_terms.specs.Descent.{both, cond_with}
 use Rattle.mt_terms.specs.Inside.{atom_literals, joined, expr_step, term_step, expr_literals, test_literals, cond_step, cond_literals, IsAtomInside, IsExprInside, IsTermInside, IsTestInside, IsCondInside}
 
 -- of an atom by itself
@@ -100,37 +99,15 @@ inside_product es h = rw (expr_literals-Product es) (All-flat_map IsLiteralInsid
 product_inside : (es : List Expr) → IsExprInside (expr.Product es) → All IsExprInside es
 product_inside es h = All-flat_map_parts IsLiteralInside expr_literals es (rw (expr_literals-Product es) at h)
 
--- terms that are joined are inside where all are
-pub inside_terms : (ts : List Term) → All IsTermInside ts → IsExprInside (sum_tree ts)
-inside_terms [] h = inside_sum [] h
-inside_terms (t ∷ []) h = All-head IsTermInside t [] h
-inside_terms (t ∷ u ∷ us) h = inside_sum (t ∷ u ∷ us) h
-
-pub terms_inside : (ts : List Term) → IsExprInside (sum_tree ts) → All IsTermInside ts
-terms_inside [] h = sum_inside [] h
-terms_inside (t ∷ []) h = All-cons IsTermInside t [] h (All-nil IsTermInside)
-terms_inside (t ∷ u ∷ us) h = sum_inside (t ∷ u ∷ us) h
-
--- factors that are joined are inside where all are
-pub inside_factors : (es : List Expr) → All IsExprInside es → IsExprInside (joined_tree expr.Product es)
-inside_factors [] h = inside_product [] h
-inside_factors (e ∷ []) h = All-head IsExprInside e [] h
-inside_factors (e ∷ f ∷ fs) h = inside_product (e ∷ f ∷ fs) h
-
-pub factors_inside : (es : List Expr) → IsExprInside (joined_tree expr.Product es) → All IsExprInside es
-factors_inside [] h = product_inside [] h
-factors_inside (e ∷ []) h = All-cons IsExprInside e [] h (All-nil IsExprInside)
-factors_inside (e ∷ f ∷ fs) h = product_inside (e ∷ f ∷ fs) h
-
 -- what is kept of an atom, a sum and a product is kept of their parts
 pub keeps_atom : (kept : Option Atom) (a : Atom) → Keeps IsAtomInside kept a → Keeps IsExprInside (option_map expr.Atom kept) (expr.Atom a)
 keeps_atom = keeps_map IsAtomInside IsExprInside expr.Atom inside_atom atom_inside
 
-pub keeps_sum : (kept : Option (List Term)) (ts : List Term) → Keeps (All IsTermInside) kept ts → Keeps IsExprInside (option_map sum_tree kept) (sum_tree ts)
-keeps_sum = keeps_map (All IsTermInside) IsExprInside sum_tree inside_terms terms_inside
+pub keeps_sum : (kept : Option (List Term)) (ts : List Term) → Keeps (All IsTermInside) kept ts → Keeps IsExprInside (option_map expr.Sum kept) (expr.Sum ts)
+keeps_sum = keeps_map (All IsTermInside) IsExprInside expr.Sum inside_sum sum_inside
 
-pub keeps_product : (kept : Option (List Expr)) (es : List Expr) → Keeps (All IsExprInside) kept es → Keeps IsExprInside (option_map (joined_tree expr.Product) kept) (joined_tree expr.Product es)
-keeps_product = keeps_map (All IsExprInside) IsExprInside (joined_tree expr.Product) inside_factors factors_inside
+pub keeps_product : (kept : Option (List Expr)) (es : List Expr) → Keeps (All IsExprInside) kept es → Keeps IsExprInside (option_map expr.Product kept) (expr.Product es)
+keeps_product = keeps_map (All IsExprInside) IsExprInside expr.Product inside_product product_inside
 
 pub keeps_term : (minus : Bool) (kept : Option Expr) (e : Expr) → Keeps IsExprInside kept e → Keeps IsTermInside (option_map (λ e. record { minus = minus; expr = e }) kept) (record { minus = minus; expr = e })
 keeps_term minus = keeps_map IsExprInside IsTermInside (λ e. record { minus = minus; expr = e }) (λ e h. h) (λ e h. h)
@@ -207,16 +184,6 @@ module _ (join : List Cond → Cond) (literals : (cs : List Cond) → cond_liter
   all_inside : (cs : List Cond) → IsCondInside (join cs) → All IsCondInside cs
   all_inside cs h = All-flat_map_parts IsLiteralInside cond_literals cs (rw (literals cs) at h)
 
-  inside_joined : (cs : List Cond) → All IsCondInside cs → IsCondInside (joined_tree join cs)
-  inside_joined [] h = inside_all [] h
-  inside_joined (c ∷ []) h = All-head IsCondInside c [] h
-  inside_joined (c ∷ d ∷ ds) h = inside_all (c ∷ d ∷ ds) h
-
-  joined_inside : (cs : List Cond) → IsCondInside (joined_tree join cs) → All IsCondInside cs
-  joined_inside [] h = all_inside [] h
-  joined_inside (c ∷ []) h = All-cons IsCondInside c [] h (All-nil IsCondInside)
-  joined_inside (c ∷ d ∷ ds) h = all_inside (c ∷ d ∷ ds) h
-
 -- what is kept of a predicate, of NOT, of AND and of OR is kept of their parts
 pub keeps_with : (kept : Option Atom) (a : Atom) (held : Option Test) (t : Test) → Keeps IsAtomInside kept a → Keeps IsTestInside held t → Keeps IsCondInside (both cond_with kept held) (cond_with a t)
 keeps_with = keeps_both IsAtomInside IsTestInside IsCondInside cond_with inside_with with_inside
@@ -224,8 +191,8 @@ keeps_with = keeps_both IsAtomInside IsTestInside IsCondInside cond_with inside_
 pub keeps_not : (kept : Option Cond) (c : Cond) → Keeps IsCondInside kept c → Keeps IsCondInside (option_map cond.Not kept) (cond.Not c)
 keeps_not = keeps_map IsCondInside IsCondInside cond.Not (λ c h. rw (cond_literals-Not c) h) (λ c h. rw (cond_literals-Not c) at h)
 
-pub keeps_and : (kept : Option (List Cond)) (cs : List Cond) → Keeps (All IsCondInside) kept cs → Keeps IsCondInside (option_map (joined_tree cond.And) kept) (joined_tree cond.And cs)
-keeps_and = keeps_map (All IsCondInside) IsCondInside (joined_tree cond.And) (inside_joined cond.And cond_literals-And) (joined_inside cond.And cond_literals-And)
+pub keeps_and : (kept : Option (List Cond)) (cs : List Cond) → Keeps (All IsCondInside) kept cs → Keeps IsCondInside (option_map cond.And kept) (cond.And cs)
+keeps_and = keeps_map (All IsCondInside) IsCondInside cond.And (inside_all cond.And cond_literals-And) (all_inside cond.And cond_literals-And)
 
-pub keeps_or : (kept : Option (List Cond)) (cs : List Cond) → Keeps (All IsCondInside) kept cs → Keeps IsCondInside (option_map (joined_tree cond.Or) kept) (joined_tree cond.Or cs)
-keeps_or = keeps_map (All IsCondInside) IsCondInside (joined_tree cond.Or) (inside_joined cond.Or cond_literals-Or) (joined_inside cond.Or cond_literals-Or)
+pub keeps_or : (kept : Option (List Cond)) (cs : List Cond) → Keeps (All IsCondInside) kept cs → Keeps IsCondInside (option_map cond.Or kept) (cond.Or cs)
+keeps_or = keeps_map (All IsCondInside) IsCondInside cond.Or (inside_all cond.Or cond_literals-Or) (all_inside cond.Or cond_literals-Or)

@@ -1,43 +1,55 @@
 -- One step of a reader of expressions.
-use Rattle.std.proofs.Common.{◌≡◌, ℕ, zero, suc, ◌-◌, ◌<◌, Option, Some, None, List, refl, ap, ◌∙◌, arith}
-use Rattle.std.specs.List.{All}
-use Rattle.std.specs.Option.{option_and_then, option_map}
+use Rattle.std.proofs.Common.{◌≡◌, ℕ, zero, suc, ◌-◌, ◌<◌, ◌≤◌, false, Option, Some, None, List, [], ◌∷◌, length, refl, ap, ◌∙◌, arith}
+use Rattle.std.specs.Option.{is_some, option_and_then, option_map}
 use Rattle.mt_lexer.specs.declared.token.Symbol.TheVariants as symbol
 use Rattle.mt_lexer.specs.Tokens.{Lexeme, Sign}
 use Rattle.mt_tree.specs.declared.expression.Expr.{Expr}
 use Rattle.mt_tree.specs.declared.expression.Expr.TheVariants as expr
 use Rattle.mt_tree.specs.declared.expression.Term.{Term}
 use Rattle.mt_reader.specs.declared.fault.ReadFault.{ReadFault}
-use Rattle.mt_reader.specs.Descent.{after, separated_of, joined_tree}
+use Rattle.mt_reader.specs.Descent.{after, with_front}
 use Rattle.mt_reader.specs.Taken.{Took, Fails}
-use Rattle.mt_reader.proofs.Joining.{joined_took, joined_fails}
+use Rattle.mt_reader.proofs.Joining.{is_none}
 use Rattle.mt_reader.proofs.Literals.{fails_bind}
-use Rattle.mt_terms.specs.Descent.{alone_of, term_of, terms_of, sum_tree, sum_of, factor_behind, factor_of}
+use Rattle.mt_terms.specs.Descent.{alone_of, term_of, sign_of, tail_of, terms_of, sum_tree, sum_of, factor_behind, factor_of}
 use Rattle.mt_terms.specs.Inside.{IsExprInside, IsTermInside}
-use Rattle.mt_terms.proofs.Inside.{keeps_sum, keeps_product}
+use Rattle.mt_terms.proofs.Inside.{keeps_sum}
+use Rattle.mt_terms.proofs.Tails.{TermsSoFar, tail_of-end, terms_so_far_all}
 
 -- what reads behind a sum in brackets
 abbrev bracket_behind : Expr × List Lexeme → Option (Expr × List Lexeme)
 bracket_behind inner = option_and_then (λ close. Some (inner.0, close)) (after (Sign symbol.Close) inner.1)
 
-module _ (factor : List Lexeme → Option (Expr × List Lexeme)) (lexemes : List Lexeme) where
-  -- factors are taken, and so a product
-  pub product_took : (kept : Option (List Expr)) (left : List Lexeme) → Took (All IsExprInside) kept left (separated_of factor (Sign symbol.Star) lexemes) → Took IsExprInside (option_map (joined_tree expr.Product) kept) left (term_of factor lexemes)
-  unfolding term_of
-  product_took = joined_took factor (Sign symbol.Star) expr.Product IsExprInside lexemes keeps_product
+-- two terms or more are a sum
+sum_many : (terms : List Term) → 2 ≤ length terms → sum_tree terms ≡ expr.Sum terms
+sum_many [] h = absurd (omega arith)
+sum_many (t ∷ []) h = absurd (omega arith)
+sum_many (t ∷ u ∷ us) h = refl
 
-  -- why factors fail is why a product does
-  pub product_fails : (e : ReadFault) → Fails e (separated_of factor (Sign symbol.Star) lexemes) → Fails e (term_of factor lexemes)
-  unfolding term_of
-  product_fails = joined_fails factor (Sign symbol.Star) expr.Product IsExprInside lexemes
+-- what reads as terms reads as their sum
+abbrev summed : Option (List Term × List Lexeme) → Option (Expr × List Lexeme)
+summed = option_and_then (λ (terms : List Term × List Lexeme). Some (sum_tree terms.0, terms.1))
+
+module _ (factor : List Lexeme → Option (Expr × List Lexeme)) (lexemes : List Lexeme) where
+  -- a term by itself is a sum
+  pub sum_alone : (left : List Lexeme) (kept : Option Expr) → is_some (sign_of left) ≡ false → Took IsExprInside kept left (term_of factor lexemes) → Took IsExprInside kept left (sum_of factor lexemes)
+  unfolding sum_of terms_of
+  sum_alone left kept none t = record {
+    tree = t.tree;
+    reads =
+        ap summed
+        (ap (option_and_then (λ (first : Expr × List Lexeme). with_front (record { minus = false; expr = first.0 } ∷ []) (tail_of (term_of factor) (length first.1) first.1))) t.reads
+        ∙ ap (with_front (record { minus = false; expr = t.tree } ∷ [])) (tail_of-end (term_of factor) (length left) left (is_none (sign_of left) none)));
+    keeps = t.keeps;
+  }
 
   -- terms are taken, and so a sum
-  pub sum_took : (kept : Option (List Term)) (left : List Lexeme) → Took (All IsTermInside) kept left (terms_of (term_of factor) lexemes) → Took IsExprInside (option_map sum_tree kept) left (sum_of factor lexemes)
+  pub sum_took : (left : List Lexeme) (terms : Option (List Term)) → TermsSoFar (term_of factor) IsTermInside (terms_of (term_of factor) lexemes) left terms → sign_of left ≡ None → Took IsExprInside (option_map expr.Sum terms) left (sum_of factor lexemes)
   unfolding sum_of
-  sum_took kept left t = record {
-    tree = sum_tree t.tree;
-    reads = ap (option_and_then (λ (terms : List Term × List Lexeme). Some (sum_tree terms.0, terms.1))) t.reads;
-    keeps = keeps_sum kept t.tree t.keeps;
+  sum_took left terms s none = record {
+    tree = expr.Sum s.front;
+    reads = ap summed (terms_so_far_all (term_of factor) IsTermInside _ left terms s none) ∙ ap (λ tree. Some (tree, left)) (sum_many s.front (s.many (ap is_some none)));
+    keeps = keeps_sum terms s.front s.keeps;
   }
 
   -- why terms fail is why a sum does

@@ -1,8 +1,8 @@
 -- The members of a sum, as far as a loop has read.
-use Rattle.std.proofs.Common.{◌≡◌, ℕ, zero, suc, ◌<◌, ◌≤◌, Bool, false, Option, Some, None, List, [], ◌∷◌, ◌++◌, length, refl, sym, ap, ◌∙◌, append-nil, arith}
+use Rattle.std.proofs.Common.{◌≡◌, ℕ, zero, suc, ◌<◌, ◌≤◌, Bool, true, false, Option, Some, None, List, [], ◌∷◌, ◌++◌, length, length-append, refl, sym, ap, ◌∙◌, append-nil, arith}
 use Rattle.std.proofs.lemmas.List.Elements.{All-nil}
 use Rattle.std.specs.List.{All}
-use Rattle.std.specs.Option.{option_and_then}
+use Rattle.std.specs.Option.{is_some, option_and_then}
 use Rattle.mt_lexer.specs.declared.token.Symbol.TheVariants as symbol
 use Rattle.mt_lexer.specs.Tokens.{Lexeme, Sign}
 use Rattle.mt_tree.specs.declared.expression.Expr.{Expr}
@@ -10,7 +10,7 @@ use Rattle.mt_tree.specs.declared.expression.Term.{Term}
 use Rattle.mt_reader.specs.declared.fault.ReadFault.{ReadFault}
 use Rattle.mt_reader.specs.declared.fault.ReadFault.TheVariants as fault
 use Rattle.mt_reader.specs.Descent.{after, with_front, pushed}
-use Rattle.mt_reader.specs.Taken.{Keeps, Took, Fails}
+use Rattle.mt_reader.specs.Taken.{Keeps, Fails}
 use Rattle.mt_reader.proofs.Shrinking.{same_tree, same_rest}
 use Rattle.mt_reader.proofs.Lists.{keeps_pushed, with_front-append}
 use Rattle.mt_reader.proofs.Literals.{fails_bind}
@@ -18,13 +18,16 @@ use Rattle.mt_reader.proofs.Spelling.{after_is}
 use Rattle.mt_terms.specs.Expression.{sign_of as sign_lexeme}
 use Rattle.mt_terms.specs.Descent.{sign_of, sign_behind, tail_of, tail_behind, terms_of}
 
--- The members so far, and those that are left, are all; and this is kept of those so far.
+-- The members so far, one at least, and those behind each sign to come are all; this is kept of those
+-- so far, and where no sign comes they are two or more.
 pub record TermsSoFar (term : List Lexeme → Option (Expr × List Lexeme)) (inside : Term → Type 0) (all : Option (List Term × List Lexeme)) (left : List Lexeme) (terms : Option (List Term)) : Type 0 where
   pub front : List Term
   pub fuel : ℕ
   pub enough : length left ≤ fuel
   pub same : with_front front (tail_of term fuel left) ≡ all
   pub keeps : Keeps (All inside) terms front
+  pub some : 0 < length front
+  pub many : is_some (sign_of left) ≡ false → 2 ≤ length front
 
 -- a sign is one lexeme
 pub sign_is : (lexemes rest : List Lexeme) (minus : Bool) → sign_of lexemes ≡ Some (minus, rest) → lexemes ≡ sign_lexeme minus ∷ rest
@@ -48,15 +51,17 @@ module _ (term : List Lexeme → Option (Expr × List Lexeme)) where
   tail_of-end (suc fuel) left s = ap (λ sign. tail_behind term (tail_of term fuel) sign left) s
 
   module _ (inside : Term → Type 0) where
-    -- behind the first member
-    pub terms_so_far_first : (lexemes mid : List Lexeme) (kept : Option Term) (e : Expr) → term lexemes ≡ Some (e, mid) → Keeps inside kept (record { minus = false; expr = e }) → TermsSoFar term inside (terms_of term lexemes) mid (pushed (Some []) kept)
+    -- behind the first member, where a sign comes
+    pub terms_so_far_first : (lexemes mid : List Lexeme) (kept : Option Term) (e : Expr) → is_some (sign_of mid) ≡ true → term lexemes ≡ Some (e, mid) → Keeps inside kept (record { minus = false; expr = e }) → TermsSoFar term inside (terms_of term lexemes) mid (pushed (Some []) kept)
     unfolding terms_of
-    terms_so_far_first lexemes mid kept e t k = record {
+    terms_so_far_first lexemes mid kept e more t k = record {
       front = record { minus = false; expr = e } ∷ [];
       fuel = length mid;
       enough = omega arith;
       same = sym (ap (option_and_then (λ (first : Expr × List Lexeme). with_front (record { minus = false; expr = first.0 } ∷ []) (tail_of term (length first.1) first.1))) t);
       keeps = keeps_pushed inside (Some []) kept [] (record { minus = false; expr = e }) (refl, All-nil inside) k;
+      some = omega arith;
+      many = λ none. cc;
     }
 
     -- why the first member fails is why all do
@@ -79,15 +84,13 @@ module _ (term : List Lexeme → Option (Expr × List Lexeme)) where
           enough = omega (arith, ap length (sign_is left mid minus sign));
           same = sym (with_front-append s.front (one ∷ []) (tail_of term fuel rest)) ∙ ap (with_front s.front) (sym (tail_of-sign fuel left mid rest minus e sign t)) ∙ same;
           keeps = keeps_pushed inside terms kept s.front one s.keeps k;
+          some = omega (arith, length-append s.front (one ∷ []));
+          many = λ none. omega (arith, s.some, length-append s.front (one ∷ []));
         }
 
       -- no sign, and so all members
-      pub terms_so_far_all : sign_of left ≡ None → Took (All inside) terms left all
-      terms_so_far_all sign = record {
-        tree = s.front;
-        reads = sym s.same ∙ ap (with_front s.front) (tail_of-end s.fuel left sign) ∙ ap (λ ts. Some (ts, left)) (append-nil s.front);
-        keeps = s.keeps;
-      }
+      pub terms_so_far_all : sign_of left ≡ None → all ≡ Some (s.front, left)
+      terms_so_far_all sign = sym s.same ∙ ap (with_front s.front) (tail_of-end s.fuel left sign) ∙ ap (λ ts. Some (ts, left)) (append-nil s.front)
 
       -- why a member fails is why all of them do
       pub terms_so_far_fault : (mid : List Lexeme) (minus : Bool) (e : ReadFault) → sign_of left ≡ Some (minus, mid) → Fails e (term mid) → Fails e all

@@ -19,8 +19,6 @@ use Rattle.mt_tree.specs.declared.expression.Cond.TheVariants as cond
 use Rattle.mt_reader.specs.Descent.{◌>>=◌, after, name_of, literal_of, begins_with_name, begins_with_word, first_symbol, with_front, separated_of, joined_of, closed_of, bracketed_of}
 use Rattle.mt_terms.specs.declared.test.Test.{Test}
 use Rattle.mt_terms.specs.declared.test.Test.TheVariants as test
-use Rattle.mt_terms.specs.declared.members.Members.{Members}
-use Rattle.mt_terms.specs.declared.members.Members.TheVariants.{One, Many}
 
 -- behind a name: a dot and a name, or nothing
 abbrev pub column_behind : List ℕ → Option (List Lexeme) → List Lexeme → Option (ColName × List Lexeme)
@@ -105,12 +103,6 @@ unfoldable pub atom_of : List Lexeme → Option (Atom × List Lexeme)
 atom_of lexemes =
     if begins_with_name lexemes then column_atom_of lexemes
     else (if begins_with_word lexemes then reserved_atom_of lexemes else literal_atom_of lexemes)
-
--- the one member, or all
-abbrev pub members_of : {T : Type 0} → List T → Members T
-members_of [] = Many []
-members_of (x ∷ []) = One x
-members_of (x ∷ y ∷ ys) = Many (x ∷ y ∷ ys)
 
 -- an atom by itself
 unfoldable pub alone_of : List Lexeme → Option (Expr × List Lexeme)

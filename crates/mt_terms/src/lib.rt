@@ -9,7 +9,6 @@ mod function;
 mod laws;
 mod leaf;
 mod logic;
-mod members;
 mod name;
 mod predicate;
 mod read;

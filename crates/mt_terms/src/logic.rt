@@ -1,17 +1,15 @@
 ghost use Rattle.std.specs.Prelude.{◌≡◌, Option, option_map, IfOk};
-ghost use Rattle.mt_reader.specs.Descent.{joined_tree};
 ghost use Rattle.mt_reader.specs.Taken.{TakesInside};
 ghost use Rattle.mt_terms.specs.Descent.{and_of, or_of, neg_of, cond_of};
 ghost use Rattle.mt_terms.specs.Inside.{IsCondInside};
 
-use crate::members::{Members, grouped};
 use crate::predicate::predicate;
 use crate::sum::DEPTH;
 use mt_lexer::Symbol;
 use mt_list::List;
 use mt_reader::{ReadFault, Reader, pushed};
 use mt_tree::Cond;
-use sqlite_items::Boxed;
+use sqlite_items::{Boxed, Items};
 use std::alloc::{AllocError, Global};
 
 /// Takes a condition; `None` is for a number outside 64 bits, here and below.
@@ -31,13 +29,15 @@ fn disjunction(
 ) -> Result<Option<Cond>, ReadFault>
     ensures { TakesInside IsCondInside result reader.new (or_of (neg_of depth) reader.old) }
 {
-    let mut members = Some(List::new(alloc));
-    loop {
-        members = pushed(members, conjunction(alloc, reader, depth)?)?;
-        if !reader.takes_word(b"or") {
-            return Ok(any_of(members));
-        }
+    let first = conjunction(alloc, reader, depth)?;
+    if !reader.is_at(b"or") {
+        return Ok(first);
     }
+    let mut members = pushed(Some(List::new(alloc)), first)?;
+    while reader.takes_word(b"or") {
+        members = pushed(members, conjunction(alloc, reader, depth)?)?;
+    }
+    Ok(any_of(members))
 }
 
 /// Takes conditions with AND between.
@@ -49,13 +49,15 @@ fn conjunction(
 ) -> Result<Option<Cond>, ReadFault>
     ensures { TakesInside IsCondInside result reader.new (and_of (neg_of depth) reader.old) }
 {
-    let mut members = Some(List::new(alloc));
-    loop {
-        members = pushed(members, negation(alloc, reader, depth)?)?;
-        if !reader.takes_word(b"and") {
-            return Ok(all_of(members));
-        }
+    let first = negation(alloc, reader, depth)?;
+    if !reader.is_at(b"and") {
+        return Ok(first);
     }
+    let mut members = pushed(Some(List::new(alloc)), first)?;
+    while reader.takes_word(b"and") {
+        members = pushed(members, negation(alloc, reader, depth)?)?;
+    }
+    Ok(all_of(members))
 }
 
 /// Takes a predicate, or a condition behind NOT or in brackets.
@@ -90,20 +92,14 @@ fn negated(alloc: Global, inner: Option<Cond>) -> Result<Option<Cond>, AllocErro
 
 /// The condition that one of these holds.
 fn any_of(members: Option<List<Cond>>) -> Option<Cond>
-    ensures { result ≡ option_map (joined_tree Cond.Or) members }
+    ensures { result ≡ option_map Cond.Or members }
 {
-    match grouped(members?) {
-        Members::One(member) => Some(member),
-        Members::Many(members) => Some(Cond::Or(members)),
-    }
+    Some(Cond::Or(Items::from_vec(members?.into_vec())))
 }
 
 /// The condition that all of these hold.
 fn all_of(members: Option<List<Cond>>) -> Option<Cond>
-    ensures { result ≡ option_map (joined_tree Cond.And) members }
+    ensures { result ≡ option_map Cond.And members }
 {
-    match grouped(members?) {
-        Members::One(member) => Some(member),
-        Members::Many(members) => Some(Cond::And(members)),
-    }
+    Some(Cond::And(Items::from_vec(members?.into_vec())))
 }

@@ -1,16 +1,15 @@
-ghost use Rattle.std.specs.Prelude.{◌≡◌, Option, Some, None, option_map};
+ghost use Rattle.std.specs.Prelude.{◌≡◌, Option, Some, None, is_some, option_map};
 ghost use Rattle.mt_lexer.specs.Tokens.{Lexeme};
 ghost use Rattle.mt_reader.specs.Taken.{TakesAny, TakesInside};
-ghost use Rattle.mt_reader.specs.Descent.{joined_tree};
-ghost use Rattle.mt_terms.specs.Descent.{alone_of, term_of, sign_of, sum_of, sum_tree, factor_of, expr_of};
+ghost use Rattle.mt_terms.specs.Descent.{alone_of, term_of, sign_of, sum_of, factor_of, expr_of};
 ghost use Rattle.mt_terms.specs.Inside.{IsExprInside};
 
 use crate::leaf::atom;
-use crate::members::{Members, grouped};
 use mt_lexer::Symbol;
 use mt_list::List;
 use mt_reader::{ReadFault, Reader, pushed};
 use mt_tree::{Atom, Expr, Term};
+use sqlite_items::Items;
 use std::alloc::Global;
 
 /// How many brackets, and NOT, may stand about one another.
@@ -31,6 +30,9 @@ fn sum(alloc: Global, reader: &mut Reader<'_>, depth: usize) -> Result<Option<Ex
     ensures { TakesInside IsExprInside result reader.new (sum_of (factor_of depth) reader.old) }
 {
     let first = product(alloc, reader, depth)?;
+    if !is_at_sign(reader) {
+        return Ok(first);
+    }
     let mut terms = pushed(Some(List::new(alloc)), term(false, first))?;
     while let Some(minus) = sign(reader) {
         let next = product(alloc, reader, depth)?;
@@ -44,13 +46,15 @@ fn sum(alloc: Global, reader: &mut Reader<'_>, depth: usize) -> Result<Option<Ex
 fn product(alloc: Global, reader: &mut Reader<'_>, depth: usize) -> Result<Option<Expr>, ReadFault>
     ensures { TakesInside IsExprInside result reader.new (term_of (factor_of depth) reader.old) }
 {
-    let mut factors = Some(List::new(alloc));
-    loop {
-        factors = pushed(factors, factor(alloc, reader, depth)?)?;
-        if !reader.takes_symbol(Symbol::Star) {
-            return Ok(multiplied(factors));
-        }
+    let first = factor(alloc, reader, depth)?;
+    if !reader.is_at_symbol(Symbol::Star) {
+        return Ok(first);
     }
+    let mut factors = pushed(Some(List::new(alloc)), first)?;
+    while reader.takes_symbol(Symbol::Star) {
+        factors = pushed(factors, factor(alloc, reader, depth)?)?;
+    }
+    Ok(multiplied(factors))
 }
 
 /// Takes an atom, or a sum in brackets.
@@ -85,6 +89,14 @@ fn leaf(found: Option<Atom>) -> Option<Expr>
     Some(Expr::Atom(found?))
 }
 
+/// Whether a sign comes first.
+#[tactic(auto, unfolding(crate::specs::Descent::sign_of))]
+fn is_at_sign(reader: &Reader<'_>) -> bool
+    ensures { result ≡ is_some (sign_of reader.now) }
+{
+    reader.is_at_symbol(Symbol::Plus) || reader.is_at_symbol(Symbol::Minus)
+}
+
 /// Takes a sign, if there is one: whether it is a minus.
 #[tactic(auto, unfolding(crate::specs::Descent::sign_of))]
 fn sign(reader: &mut Reader<'_>) -> Option<bool>
@@ -108,20 +120,14 @@ fn term(minus: bool, expr: Option<Expr>) -> Option<Term>
 
 /// The sum of these members.
 fn summed(terms: Option<List<Term>>) -> Option<Expr>
-    ensures { result ≡ option_map sum_tree terms }
+    ensures { result ≡ option_map Expr.Sum terms }
 {
-    match grouped(terms?) {
-        Members::One(term) => Some(term.expr),
-        Members::Many(terms) => Some(Expr::Sum(terms)),
-    }
+    Some(Expr::Sum(Items::from_vec(terms?.into_vec())))
 }
 
 /// The product of these members.
 fn multiplied(factors: Option<List<Expr>>) -> Option<Expr>
-    ensures { result ≡ option_map (joined_tree Expr.Product) factors }
+    ensures { result ≡ option_map Expr.Product factors }
 {
-    match grouped(factors?) {
-        Members::One(factor) => Some(factor),
-        Members::Many(factors) => Some(Expr::Product(factors)),
-    }
+    Some(Expr::Product(Items::from_vec(factors?.into_vec())))
 }

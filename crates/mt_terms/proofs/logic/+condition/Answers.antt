@@ -1,12 +1,12 @@
 -- A condition by its first lexeme, and members as far as there are separators.
-use Rattle.std.proofs.Common.{arith}
+use Rattle.std.proofs.Common.{Some, sym, ap, ◌∙◌, subst, arith}
 use Rattle.std.specs.Prelude.{codes}
 use Rattle.std.proofs.lemmas.Result.{err_from_is_err_and}
 use Rattle.mt_lexer.specs.Tokens.{Word}
 use Rattle.mt_tree.specs.declared.expression.Cond.TheVariants as cond
+use Rattle.mt_reader.specs.Descent.{pushed}
 use Rattle.mt_reader.proofs.Shrinking.{after_shrinks}
-use Rattle.mt_reader.proofs.Joining.{joined_took, joined_fails}
-use Rattle.mt_reader.proofs.Lists.{so_far_none, so_far_more, so_far_all, so_far_fault}
+use Rattle.mt_reader.proofs.Joining.{JoinedSoFar, joined_alone, joined_first, joined_first_fails, joined_more, joined_more_fails, joined_took}
 use Rattle.mt_terms.specs.Descent.{and_of, or_of, neg_of}
 use Rattle.mt_terms.specs.Inside.{IsCondInside}
 use Rattle.mt_terms.proofs.Conditions.{neg_shrinks, and_shrinks}
@@ -16,75 +16,85 @@ use Rattle.mt_terms.proofs.logic.+condition.Goals as goal
 
 -- conjunction
 
-pub conjunction-loop-members-init : goal.conjunction-loop-members-init
-conjunction-loop-members-init t c = rw c.new.ensures (so_far_none (neg_of c.args.depth) (Word (codes "and")) IsCondInside c.args.reader.now)
+pub conjunction-returns-in_err-first : goal.conjunction-returns-in_err-first
+unfolding and_of
+conjunction-returns-in_err-first t c =
+    let p = err_from_is_err_and c.from_residual.result c.from_residual.ensures.1 in
+    rw (p.1, p.2) (joined_first_fails (neg_of c.args.depth) (neg_shrinks c.args.depth) (Word (codes "and")) cond.And IsCondInside c.args.reader.now c.in_err-first.field-0.0 c.in_err-first.ensures)
+
+pub conjunction-returns-then-not-is_at : goal.conjunction-returns-then-not-is_at
+unfolding and_of
+conjunction-returns-then-not-is_at t c = joined_alone (neg_of c.args.depth) (neg_shrinks c.args.depth) (Word (codes "and")) cond.And IsCondInside c.args.reader.now c.negation.new.reader c.in_ok-first.first (sym c.if-not-is_at.ensures) c.in_ok-first.ensures
+
+pub conjunction-loop-alloc-init : goal.conjunction-loop-alloc-init
+conjunction-loop-alloc-init t c =
+    subst (JoinedSoFar (neg_of c.args.depth) (neg_shrinks c.args.depth) (Word (codes "and")) cond.And IsCondInside c.args.reader.now c.negation.new.reader)
+    (sym (c.in_ok-members.ensures ∙ ap (λ none. pushed (Some none) c.in_ok-first.first) c.new.ensures))
+    (joined_first (neg_of c.args.depth) (neg_shrinks c.args.depth) (Word (codes "and")) cond.And IsCondInside c.args.reader.now c.negation.new.reader c.in_ok-first.first (sym c.if-not-is_at.ensures) c.in_ok-first.ensures)
 
 pub conjunction-returns-in_err-negation : goal.conjunction-returns-in_err-negation
 unfolding and_of
 conjunction-returns-in_err-negation t c =
-    let p = err_from_is_err_and c.from_residual.result c.from_residual.ensures.1 in
-    let e = c.in_err-negation.field-0.0 in
-    rw (p.1, p.2)
-    (joined_fails (neg_of c.args.depth) (Word (codes "and")) cond.And IsCondInside c.args.reader.now e
-    (so_far_fault (neg_of c.args.depth) (Word (codes "and")) IsCondInside _ c.loop-members.reader c.loop-members.members e c.loop-members.invariant c.in_err-negation.ensures))
+    let p = err_from_is_err_and c.from_residual-in_err-negation.result c.from_residual-in_err-negation.ensures.1 in
+    rw (p.1, p.2) (joined_more_fails (neg_of c.args.depth) (neg_shrinks c.args.depth) (Word (codes "and")) cond.And IsCondInside c.args.reader.now c.loop-alloc.reader c.loop-alloc.members c.loop-alloc.invariant c.takes_word.new.self c.in_err-negation.field-0.0 c.loop-alloc-test.ensures c.in_err-negation.ensures)
 
-pub conjunction-returns-then-not-takes_word : goal.conjunction-returns-then-not-takes_word
+pub conjunction-loop-alloc-smaller : goal.conjunction-loop-alloc-smaller
+conjunction-loop-alloc-smaller t c =
+    let took = c.in_ok-negation.ensures in
+    let shorter = neg_shrinks c.args.depth c.takes_word.new.self c.negation-in-loop-alloc.new.reader took.tree took.reads in
+    omega (arith, after_shrinks _ c.loop-alloc.reader c.takes_word.new.self c.loop-alloc-test.ensures)
+
+pub conjunction-loop-alloc-preserved : goal.conjunction-loop-alloc-preserved
+conjunction-loop-alloc-preserved t c =
+    rw c.in_ok-members-2.ensures
+    (joined_more (neg_of c.args.depth) (neg_shrinks c.args.depth) (Word (codes "and")) cond.And IsCondInside c.args.reader.now c.loop-alloc.reader c.loop-alloc.members c.loop-alloc.invariant c.takes_word.new.self c.negation-in-loop-alloc.new.reader c.in_ok-negation.field-0 c.loop-alloc-test.ensures c.in_ok-negation.ensures)
+
+pub conjunction-returns : goal.conjunction-returns
 unfolding and_of
-conjunction-returns-then-not-takes_word t c =
-    let took = c.in_ok-negation.ensures in
-    let shorter = neg_shrinks c.args.depth c.loop-members.reader c.negation.new.reader took.tree took.reads in
-    let all = so_far_all (neg_of c.args.depth) (Word (codes "and")) IsCondInside _ c.loop-members.reader c.negation.new.reader c.loop-members.members c.in_ok-negation.field-0 took.tree c.loop-members.invariant took.reads shorter took.keeps c.if-not-takes_word.ensures.0 in
-    rw (c.all_of.ensures, c.in_ok-members.ensures, c.if-not-takes_word.ensures.1)
-    (joined_took (neg_of c.args.depth) (Word (codes "and")) cond.And IsCondInside c.args.reader.now keeps_and _ c.negation.new.reader all)
-
-pub conjunction-loop-members-smaller : goal.conjunction-loop-members-smaller
-conjunction-loop-members-smaller t c =
-    let took = c.in_ok-negation.ensures in
-    let shorter = neg_shrinks c.args.depth c.loop-members.reader c.negation.new.reader took.tree took.reads in
-    omega (arith, after_shrinks _ c.negation.new.reader c.takes_word.new.self c.if-not-takes_word.ensures)
-
-pub conjunction-loop-members-preserved : goal.conjunction-loop-members-preserved
-conjunction-loop-members-preserved t c =
-    let took = c.in_ok-negation.ensures in
-    let shorter = neg_shrinks c.args.depth c.loop-members.reader c.negation.new.reader took.tree took.reads in
-    rw c.in_ok-members.ensures
-    (so_far_more (neg_of c.args.depth) (Word (codes "and")) IsCondInside _ c.loop-members.reader c.negation.new.reader c.takes_word.new.self c.loop-members.members c.in_ok-negation.field-0 took.tree c.loop-members.invariant took.reads shorter took.keeps c.if-not-takes_word.ensures)
+conjunction-returns t c =
+    rw (c.all_of.ensures, c.loop-alloc-test.ensures.1)
+    (joined_took (neg_of c.args.depth) (neg_shrinks c.args.depth) (Word (codes "and")) cond.And IsCondInside c.args.reader.now c.loop-alloc.reader c.loop-alloc.members c.loop-alloc.invariant keeps_and c.loop-alloc-test.ensures.0)
 
 -- disjunction
 
-pub disjunction-loop-members-init : goal.disjunction-loop-members-init
-disjunction-loop-members-init t c = rw c.new.ensures (so_far_none (and_of (neg_of c.args.depth)) (Word (codes "or")) IsCondInside c.args.reader.now)
+pub disjunction-returns-in_err-first : goal.disjunction-returns-in_err-first
+unfolding or_of
+disjunction-returns-in_err-first t c =
+    let p = err_from_is_err_and c.from_residual.result c.from_residual.ensures.1 in
+    rw (p.1, p.2) (joined_first_fails (and_of (neg_of c.args.depth)) (and_shrinks c.args.depth) (Word (codes "or")) cond.Or IsCondInside c.args.reader.now c.in_err-first.field-0.0 c.in_err-first.ensures)
+
+pub disjunction-returns-then-not-is_at : goal.disjunction-returns-then-not-is_at
+unfolding or_of
+disjunction-returns-then-not-is_at t c = joined_alone (and_of (neg_of c.args.depth)) (and_shrinks c.args.depth) (Word (codes "or")) cond.Or IsCondInside c.args.reader.now c.conjunction.new.reader c.in_ok-first.first (sym c.if-not-is_at.ensures) c.in_ok-first.ensures
+
+pub disjunction-loop-alloc-init : goal.disjunction-loop-alloc-init
+disjunction-loop-alloc-init t c =
+    subst (JoinedSoFar (and_of (neg_of c.args.depth)) (and_shrinks c.args.depth) (Word (codes "or")) cond.Or IsCondInside c.args.reader.now c.conjunction.new.reader)
+    (sym (c.in_ok-members.ensures ∙ ap (λ none. pushed (Some none) c.in_ok-first.first) c.new.ensures))
+    (joined_first (and_of (neg_of c.args.depth)) (and_shrinks c.args.depth) (Word (codes "or")) cond.Or IsCondInside c.args.reader.now c.conjunction.new.reader c.in_ok-first.first (sym c.if-not-is_at.ensures) c.in_ok-first.ensures)
 
 pub disjunction-returns-in_err-conjunction : goal.disjunction-returns-in_err-conjunction
 unfolding or_of
 disjunction-returns-in_err-conjunction t c =
-    let p = err_from_is_err_and c.from_residual.result c.from_residual.ensures.1 in
-    let e = c.in_err-conjunction.field-0.0 in
-    rw (p.1, p.2)
-    (joined_fails (and_of (neg_of c.args.depth)) (Word (codes "or")) cond.Or IsCondInside c.args.reader.now e
-    (so_far_fault (and_of (neg_of c.args.depth)) (Word (codes "or")) IsCondInside _ c.loop-members.reader c.loop-members.members e c.loop-members.invariant c.in_err-conjunction.ensures))
+    let p = err_from_is_err_and c.from_residual-in_err-conjunction.result c.from_residual-in_err-conjunction.ensures.1 in
+    rw (p.1, p.2) (joined_more_fails (and_of (neg_of c.args.depth)) (and_shrinks c.args.depth) (Word (codes "or")) cond.Or IsCondInside c.args.reader.now c.loop-alloc.reader c.loop-alloc.members c.loop-alloc.invariant c.takes_word.new.self c.in_err-conjunction.field-0.0 c.loop-alloc-test.ensures c.in_err-conjunction.ensures)
 
-pub disjunction-returns-then-not-takes_word : goal.disjunction-returns-then-not-takes_word
+pub disjunction-loop-alloc-smaller : goal.disjunction-loop-alloc-smaller
+disjunction-loop-alloc-smaller t c =
+    let took = c.in_ok-conjunction.ensures in
+    let shorter = and_shrinks c.args.depth c.takes_word.new.self c.conjunction-in-loop-alloc.new.reader took.tree took.reads in
+    omega (arith, after_shrinks _ c.loop-alloc.reader c.takes_word.new.self c.loop-alloc-test.ensures)
+
+pub disjunction-loop-alloc-preserved : goal.disjunction-loop-alloc-preserved
+disjunction-loop-alloc-preserved t c =
+    rw c.in_ok-members-2.ensures
+    (joined_more (and_of (neg_of c.args.depth)) (and_shrinks c.args.depth) (Word (codes "or")) cond.Or IsCondInside c.args.reader.now c.loop-alloc.reader c.loop-alloc.members c.loop-alloc.invariant c.takes_word.new.self c.conjunction-in-loop-alloc.new.reader c.in_ok-conjunction.field-0 c.loop-alloc-test.ensures c.in_ok-conjunction.ensures)
+
+pub disjunction-returns : goal.disjunction-returns
 unfolding or_of
-disjunction-returns-then-not-takes_word t c =
-    let took = c.in_ok-conjunction.ensures in
-    let shorter = and_shrinks c.args.depth c.loop-members.reader c.conjunction.new.reader took.tree took.reads in
-    let all = so_far_all (and_of (neg_of c.args.depth)) (Word (codes "or")) IsCondInside _ c.loop-members.reader c.conjunction.new.reader c.loop-members.members c.in_ok-conjunction.field-0 took.tree c.loop-members.invariant took.reads shorter took.keeps c.if-not-takes_word.ensures.0 in
-    rw (c.any_of.ensures, c.in_ok-members.ensures, c.if-not-takes_word.ensures.1)
-    (joined_took (and_of (neg_of c.args.depth)) (Word (codes "or")) cond.Or IsCondInside c.args.reader.now keeps_or _ c.conjunction.new.reader all)
-
-pub disjunction-loop-members-smaller : goal.disjunction-loop-members-smaller
-disjunction-loop-members-smaller t c =
-    let took = c.in_ok-conjunction.ensures in
-    let shorter = and_shrinks c.args.depth c.loop-members.reader c.conjunction.new.reader took.tree took.reads in
-    omega (arith, after_shrinks _ c.conjunction.new.reader c.takes_word.new.self c.if-not-takes_word.ensures)
-
-pub disjunction-loop-members-preserved : goal.disjunction-loop-members-preserved
-disjunction-loop-members-preserved t c =
-    let took = c.in_ok-conjunction.ensures in
-    let shorter = and_shrinks c.args.depth c.loop-members.reader c.conjunction.new.reader took.tree took.reads in
-    rw c.in_ok-members.ensures
-    (so_far_more (and_of (neg_of c.args.depth)) (Word (codes "or")) IsCondInside _ c.loop-members.reader c.conjunction.new.reader c.takes_word.new.self c.loop-members.members c.in_ok-conjunction.field-0 took.tree c.loop-members.invariant took.reads shorter took.keeps c.if-not-takes_word.ensures)
+disjunction-returns t c =
+    rw (c.any_of.ensures, c.loop-alloc-test.ensures.1)
+    (joined_took (and_of (neg_of c.args.depth)) (and_shrinks c.args.depth) (Word (codes "or")) cond.Or IsCondInside c.args.reader.now c.loop-alloc.reader c.loop-alloc.members c.loop-alloc.invariant keeps_or c.loop-alloc-test.ensures.0)
 
 -- negation
 
