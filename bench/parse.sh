@@ -13,9 +13,11 @@ cd "$work"
 report() {
     name=$1
     count=$2
-    /usr/bin/time -f "%e" -o taken "$program" plain <"$name" >replies
-    awk -v name="$name" -v n="$count" -v bytes="$(wc -c <"$name")" \
-        '{ printf "%-16s %6d lines of %6d bytes %7.2f s %9.4f ms a line\n", name, n, bytes / n, $1, 1000 * $1 / n }' taken
+    /usr/bin/time -f "%e %U %S" -o taken "$program" plain <"$name" >replies
+    awk -v name="$name" -v n="$count" -v bytes="$(wc -c <"$name")" '{
+        printf "%-12s %6d lines of %6d bytes %6.2f s %8.4f ms a line, of it %.4f its own and %.4f the system'\''s\n",
+            name, n, bytes / n, $1, 1000 * $1 / n, 1000 * $2 / n, 1000 * $3 / n
+    }' taken
     sort replies | uniq -c
 }
 

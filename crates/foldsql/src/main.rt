@@ -24,6 +24,7 @@ mod turn;
 use command::foldsql;
 use mt_hostio::{FolderMachine, StdinSource};
 use status::Status;
+use std::alloc::Global;
 use std::process::ExitCode;
 use std::rt::Env;
 use std::{env, io};
@@ -33,6 +34,16 @@ const USAGE: &str = "usage: foldsql WORD
   plain    answers them with the whole service so far, kept as plain lists in memory
 ";
 
+/// How large a block is taken and given back at the start, in bytes.
+const BLOCK: usize = 16 << 20;
+
+// Takes a large block and gives it back. The C library's allocator then keeps up to twice as much of what was
+// freed; else it gives the memory of a long line back to the system, which clears it anew for the next one, and
+// that takes as long as reading the line. Where there is no such block only speed is lost.
+fn keep_what_is_freed(alloc: Global) {
+    let _ = Vec::<u8>::with_capacity(alloc, BLOCK);
+}
+
 // The words after the program's name. An error, as for a word that is not UTF-8, is to count as no words.
 fn words<R: Env + AllocGlobal>(rt: &R) -> io::Result<Vec<String>> {
     Ok(env::args(rt)?.skip(1).collect(rt.alloc())?)
@@ -40,6 +51,7 @@ fn words<R: Env + AllocGlobal>(rt: &R) -> io::Result<Vec<String>> {
 
 fn main(rt: HostRuntime) -> ExitCode {
     let alloc = rt.alloc();
+    keep_what_is_freed(alloc);
     let words = words(&rt).unwrap_or(Vec::new(alloc));
     let mut source = StdinSource::new(&rt);
     let mut machine = FolderMachine::new(&rt);
