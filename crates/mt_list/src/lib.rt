@@ -4,6 +4,7 @@
 //! copies.
 #![tactic(auto)]
 
+mod compared;
 mod duplicate;
 mod list;
 

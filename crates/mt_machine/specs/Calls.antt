@@ -1,6 +1,7 @@
 -- What each call on a machine or a source does, as a relation between what it stands for before and after.
 use Rattle.std.specs.Prelude.{◌≡◌, ◌≢◌, ◌⊎◌, ℕ, ◌+◌, ◌<◌, ◌≤◌, IsTrue, IsErr, IfOk, OnOk, OnErr, List, [], ◌++◌, length, take, slice_index, Result}
 use Rattle.mt_machine.specs.declared.machine.Area.{Area}
+use Rattle.mt_machine.specs.Faults.{one_more}
 use Rattle.mt_machine.specs.Meaning.{Disk, Meaning, Supply, Rose}
 
 -- these bytes stand in the area from a position on
@@ -20,10 +21,11 @@ pub record PutsOutFront (bytes old new : List ℕ) : Type 0 where
   pub split : bytes ≡ front ++ rest
   pub output : new ≡ old ++ front
 
--- the count did not fall, and a failure has a fault behind it
+-- a failure has a fault behind it, and else none is counted; the count never falls
 pub record HasCause {T E : Type 0} (before now : ℕ) (result : Result T E) : Type 0 where
   pub no_lower : before ≤ now
   pub failed : IsErr result → Rose before now
+  pub none : OnOk result (now ≡ before)
 
 -- the same images
 abbrev pub SameImages : (Disk → Type 0) → (Disk → Type 0) → Type 0
@@ -107,4 +109,7 @@ pub record Takes {E : Type 0} (result : Result ℕ E) (buf : List ℕ) (old new 
   -- 0 comes only where nothing is left, and by the line above it comes wherever nothing is
   pub end : IfOk result (λ n. n ≡ 0 → IsTrue new.tells → old.left ≡ [])
   pub failed : OnErr result (IsTrue new.tells → new.left ≡ old.left)
+  pub gave : IfOk result (λ n. IsTrue new.tells → new.last ≡ take n buf)
+  pub gave_nothing : OnErr result (IsTrue new.tells → new.last ≡ [])
+  pub counted : IsTrue new.tells → new.takes ≡ one_more old.takes
   pub cause : HasCause old.faults new.faults result

@@ -11,6 +11,7 @@ use Rattle.mt_machine.specs.declared.step.Step.{Step}
 use Rattle.mt_machine.specs.declared.step.Step.TheVariants.{Wrote, Synced, Passed, Emitted}
 use Rattle.mt_machine.specs.Image.{first_disk, image_disk}
 use Rattle.mt_machine.specs.Meaning.{Disk, Meaning, Supply}
+use Rattle.mt_machine.specs.Pieces.{Pieces}
 use Rattle.mt_machine.specs.Run.{Run, images_of, since_of}
 
 -- a machine that tells all, holds this disk, of which a stop would leave just that, and that has put
@@ -95,14 +96,18 @@ abbrev pub emit_step : {T E : Type 0} → Result T E → List ℕ → Step
 emit_step (Ok _) bytes = Emitted bytes
 emit_step (Err _) bytes = Emitted (take (length bytes / 2) bytes)
 
--- a source that tells, with these bytes still to come and so many faults
-abbrev pub supply_of : List ℕ → ℕ → Supply
-supply_of left faults = record { tells = true; left = left; faults = faults }
+-- a source that tells, with these bytes still to come, of which nothing was taken
+abbrev pub fresh_supply : List ℕ → Supply
+fresh_supply left = record { tells = true; left = left; last = []; takes = 0; faults = 0 }
+
+-- a source that tells what it gives in pieces, and so many faults
+abbrev pub supply_of : Pieces → ℕ → Supply
+supply_of pieces faults = record { tells = true; left = pieces.left; last = pieces.last; takes = pieces.takes; faults = faults }
 
 -- a source that never fails
 abbrev pub steady_supply : SteadySource → Supply
-steady_supply source = supply_of source.cursor.left 0
+steady_supply source = supply_of source.cursor 0
 
 -- a source that fails by list, and counts its faults
 abbrev pub mem_supply : MemSource → Supply
-mem_supply source = supply_of source.cursor.left source.faults
+mem_supply source = supply_of source.cursor source.faults

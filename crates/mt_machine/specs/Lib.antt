@@ -2,9 +2,12 @@ pub mod Calls
 pub mod Faults
 pub mod Image
 pub mod InMemory
+pub mod Keeps
 pub mod Leaves
 pub mod LeavesLaws
 pub mod Meaning
+pub mod Passes
+pub mod PassesLaws
 pub mod Pieces
 pub mod Run
 pub mod RunLaws

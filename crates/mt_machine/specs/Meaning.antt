@@ -22,10 +22,15 @@ pub record Meaning : Type 1 where
   pub disk_faults : ℕ
   pub emit_faults : ℕ
 
--- What a source stands for. The bytes still to come are known only where it tells them.
+-- What a source stands for. All but its faults is known only where it tells.
 pub record Supply : Type 0 where
   pub tells : Bool
+  -- the bytes still to come
   pub left : List ℕ
+  -- what the last take gave; nothing where it failed, or where there was none
+  pub last : List ℕ
+  -- how many takes there were; the count stands still at the last value of its type
+  pub takes : ℕ
   pub faults : ℕ
 
 -- A count of faults rose. It stands still at the last value of its type, which counts as risen.

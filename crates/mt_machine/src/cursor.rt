@@ -1,4 +1,5 @@
 ghost use Rattle.std.specs.Prelude.{◌≡◌, ◌≤◌, ◌<◌, [], ◌++◌, length, min, take, drop};
+ghost use Rattle.mt_machine.specs.Faults.{one_more};
 
 use crate::Bytes;
 use crate::front::put_front;
@@ -9,19 +10,23 @@ use std::marker::Model;
 #[derive(Debug, Drop)]
 pub struct Cursor {
     bytes: Bytes,
+    // The last piece stands in `bytes[from..at]`.
+    from: usize,
     at: usize,
     piece: usize,
+    // The count stands still at its last value.
+    takes: u64,
 }
 
 impl Model for Cursor {
-    ghost use Rattle.std.specs.Prelude.{◌≤◌, length, drop};
+    ghost use Rattle.std.specs.Prelude.{◌≤◌, length, drop, slice_range};
     ghost use Rattle.mt_machine.specs.Pieces.{Pieces};
 
     ghost Value = { Pieces };
 
-    ghost view = { λ cursor. record { left = drop cursor.at cursor.bytes; longest = cursor.piece } };
+    ghost view = { λ cursor. record { left = drop cursor.at cursor.bytes; longest = cursor.piece; last = slice_range cursor.bytes cursor.from cursor.at; takes = cursor.takes } };
 
-    ghost invariant = { λ cursor. (cursor.at ≤ length cursor.bytes) × (1 ≤ cursor.piece) };
+    ghost invariant = { λ cursor. (cursor.from ≤ cursor.at) × (cursor.at ≤ length cursor.bytes) × (1 ≤ cursor.piece) };
 }
 
 impl Cursor {
@@ -30,11 +35,15 @@ impl Cursor {
         requires { 1 ≤ piece }
         ensures left { result.left ≡ bytes }
         ensures longest { result.longest ≡ piece }
+        ensures last { result.last ≡ [] }
+        ensures takes { result.takes ≡ 0 }
     {
         Cursor {
             bytes,
+            from: 0,
             at: 0,
             piece,
+            takes: 0,
         }
     }
 
@@ -53,10 +62,25 @@ impl Cursor {
         ensures moved { self.old.left ≡ take result buf.new ++ self.new.left }
         ensures end { result ≡ 0 → self.old.left ≡ [] }
         ensures longest { self.new.longest ≡ self.old.longest }
+        ensures last { self.new.last ≡ take result buf.new }
+        ensures takes { self.new.takes ≡ one_more self.old.takes }
     {
         let count = put_piece(buf, &self.bytes.as_slice()[self.at..], self.piece);
+        self.from = self.at;
         self.at += count;
+        self.takes = self.takes.saturating_add(1);
         count
+    }
+
+    /// Counts a take that failed: the last piece is none.
+    pub fn miss(&mut self)
+        ensures left { self.new.left ≡ self.old.left }
+        ensures longest { self.new.longest ≡ self.old.longest }
+        ensures last { self.new.last ≡ [] }
+        ensures takes { self.new.takes ≡ one_more self.old.takes }
+    {
+        self.from = self.at;
+        self.takes = self.takes.saturating_add(1);
     }
 }
 

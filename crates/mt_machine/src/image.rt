@@ -1,4 +1,4 @@
-ghost use Rattle.std.specs.Prelude.{◌≡◌, ◌+◌, ◌-◌, ◌≤◌, ◌^◌, ◌++◌, length, take, replicate, vec_len, OnOk, IfOk};
+ghost use Rattle.std.specs.Prelude.{◌≡◌, ◌+◌, ◌-◌, ◌≤◌, ◌^◌, [], ◌++◌, length, take, replicate, vec_len, OnOk, IfOk};
 ghost use Rattle.mt_machine.specs.Image.{IsFilled, IsWritten, ReadsAlike};
 
 use crate::front::put_front;
@@ -73,11 +73,15 @@ impl Image {
         fill_from(held, at as usize, buf);
     }
 
-    /// Writes the bytes, with zeros before them where the area ends before `at`. `AllocError` is
-    /// want of memory, as for a range that ends past the last address.
+    /// Writes the bytes, with zeros before them where the area ends before `at`; no bytes change
+    /// nothing. `AllocError` is want of memory, as for a range that ends past the last address.
     pub fn write(&mut self, area: Area, at: u64, bytes: &[u8]) -> Result<(), AllocError>
-        ensures { OnOk result (image_disk self.new ≡ with_bytes area at bytes.now (image_disk self.old)) }
+        ensures written { OnOk result (image_disk self.new ≡ with_bytes area at bytes.now (image_disk self.old)) }
+        ensures empty { bytes.now ≡ [] → self.new ≡ self.old }
     {
+        if bytes.is_empty() {
+            return Ok(());
+        }
         match area {
             Area::Log => write_over(&mut self.log, at as usize, bytes),
             Area::Pages => write_over(&mut self.pages, at as usize, bytes),
@@ -86,8 +90,12 @@ impl Image {
 
     /// Writes so many copies of one byte, as `write` writes bytes.
     pub fn fill(&mut self, area: Area, at: u64, count: usize, byte: u8) -> Result<(), AllocError>
-        ensures { OnOk result (image_disk self.new ≡ with_bytes area at (replicate count byte) (image_disk self.old)) }
+        ensures written { OnOk result (image_disk self.new ≡ with_bytes area at (replicate count byte) (image_disk self.old)) }
+        ensures empty { count ≡ 0 → self.new ≡ self.old }
     {
+        if count == 0 {
+            return Ok(());
+        }
         match area {
             Area::Log => fill_over(&mut self.log, at as usize, count, byte),
             Area::Pages => fill_over(&mut self.pages, at as usize, count, byte),

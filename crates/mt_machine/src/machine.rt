@@ -56,6 +56,9 @@ pub trait Machine {
     /// What holds of each of two stretches of calls holds of both together.
     ghost beneath_both: { (first second third : Self) → beneath first second → beneath second third → beneath first third };
 
+    /// A machine that tells its moments tells its content.
+    ghost moments_told: { (machine : Self) → IsTrue (meaning machine).tells_moments → IsTrue (meaning machine).tells };
+
     /// The disk as it reads is one of its images.
     ghost content_is_image: { (machine : Self) → IsTrue (meaning machine).tells_moments → (meaning machine).images (meaning machine).content };
 

@@ -13,14 +13,14 @@ pub struct MemSource {
 }
 
 impl MemSource {
-    ghost use Rattle.mt_machine.specs.InMemory.{supply_of, mem_supply};
+    ghost use Rattle.mt_machine.specs.InMemory.{fresh_supply, mem_supply};
     ghost use Rattle.mt_machine.specs.Schedule.{IsUncalled};
 
     /// The source of these bytes, which gives at most `piece` of them a take, and of which the
     /// named takes fail.
     pub fn new(bytes: Bytes, piece: usize, fails: FailList) -> MemSource
         requires { 1 ≤ piece }
-        ensures supply { mem_supply result ≡ supply_of bytes 0 }
+        ensures supply { mem_supply result ≡ fresh_supply bytes }
         ensures piece { result.cursor.longest ≡ piece }
         ensures schedule { IsUncalled fails result.schedule }
     {
@@ -56,6 +56,7 @@ impl Source for MemSource {
         ensures counted { CountsCall CallKind.Take self.old.schedule self.new.schedule }
     {
         if self.schedule.fails_now(CallKind::Take) {
+            self.cursor.miss();
             self.faults = self.faults.saturating_add(1);
             return Err(Failed);
         }

@@ -69,6 +69,8 @@ impl Machine for QuietMachine {
 
     ghost beneath_both = { λ _ _ _ _ _. tt };
 
+    ghost moments_told = { λ _ told. absurd (false≢true told) };
+
     ghost content_is_image = { λ _ _. tt };
 
     ghost counts_now = { λ _ _ _ _ _ _. tt };

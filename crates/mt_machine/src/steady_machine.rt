@@ -73,6 +73,8 @@ impl Machine for SteadyMachine {
 
     ghost beneath_both = { λ _ _ _ _ _. tt };
 
+    ghost moments_told = { λ _ told. told };
+
     ghost content_is_image = { λ machine. run_content_is_image (steady_run machine) machine.recording.tied };
 
     ghost counts_now = { λ machine. run_counts_now (steady_run machine) machine.recording.tied };

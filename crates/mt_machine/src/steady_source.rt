@@ -10,12 +10,12 @@ pub struct SteadySource {
 }
 
 impl SteadySource {
-    ghost use Rattle.mt_machine.specs.InMemory.{supply_of, steady_supply};
+    ghost use Rattle.mt_machine.specs.InMemory.{fresh_supply, steady_supply};
 
     /// The source of these bytes, which gives at most `piece` of them a take.
     pub fn new(bytes: Bytes, piece: usize) -> SteadySource
         requires { 1 ≤ piece }
-        ensures supply { steady_supply result ≡ supply_of bytes 0 }
+        ensures supply { steady_supply result ≡ fresh_supply bytes }
         ensures piece { result.cursor.longest ≡ piece }
     {
         SteadySource {

@@ -10,7 +10,7 @@ mod text;
 mod truth;
 mod value;
 
-pub use order::{compare, orders_are_total, row_order, value_order};
+pub use order::{compare, compare_any, orders_are_total, row_order, value_order};
 pub use quotes::split_quote;
 pub use sort::sort_rows;
 pub use text::{Str, StrFault};

@@ -36,6 +36,13 @@ pub fn compare(op: Cmp, a: &Value, b: &Value) -> Truth
     requires { AreComparable a.now b.now }
     ensures { result ≡ compare_of op a.now b.now }
 {
+    compare_any(op, a, b)
+}
+
+/// The same of any two values: of an integer and a text it is that of their order.
+pub fn compare_any(op: Cmp, a: &Value, b: &Value) -> Truth
+    ensures { result ≡ compare_of op a.now b.now }
+{
     if is_null(a) || is_null(b) {
         return Truth::Unknown;
     }

@@ -3,7 +3,7 @@ use mt_list::{Duplicate, List};
 use std::alloc::{AllocError, Global};
 
 /// A value of SQL. The variants stand in the order in which values are printed.
-#[derive(Debug, Drop, PartialEq, Eq, PartialOrd, Ord)]
+#[derive(Debug, Drop, PartialEq, Eq, PartialOrd, Ord, Hash)]
 pub enum Value {
     Null,
     Int(i64),
