@@ -48,7 +48,8 @@ impl From<StrFault> for FieldFault {
 
 /// The number of bytes of a field: a flag and 8 bytes, or a flag, a length of two bytes and the text's.
 pub fn width(kind: FieldKind) -> usize
-    ensures { result ≡ width_of kind }
+    ensures value { result ≡ width_of kind }
+    ensures bound { result ≤ 258 }
 {
     match kind {
         FieldKind::Int => 9,

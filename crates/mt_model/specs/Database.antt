@@ -1,9 +1,7 @@
 -- The private database of one tenant.
-use Rattle.std.specs.Prelude.{ℕ, ◌+◌, true, List, [], ◌∷◌, ◌++◌, length, map, filter, sum_by, option_map}
-use Rattle.mt_value.specs.declared.value.Value.{Value}
+use Rattle.std.specs.Prelude.{ℕ, List, [], ◌∷◌, ◌++◌, length, map, sum_by, option_map}
 use Rattle.mt_tree.specs.declared.schema.Table.{Table}
-pub use Rattle.mt_model.specs.declared.database.MarkedRow.{MarkedRow}
-pub use Rattle.mt_model.specs.declared.database.TableContent.{TableContent}
+pub use Rattle.mt_tree.specs.Rows.{MarkedRow, TableContent, no_rows, visible_rows, with_row}
 pub use Rattle.mt_model.specs.declared.database.SavedContent.{SavedContent}
 pub use Rattle.mt_model.specs.declared.database.PrivateDatabase.{PrivateDatabase}
 
@@ -11,21 +9,9 @@ pub use Rattle.mt_model.specs.declared.database.PrivateDatabase.{PrivateDatabase
 abbrev pub Content : Type 0
 Content = List TableContent
 
--- a table in which no row was ever made
-abbrev pub no_rows : TableContent
-no_rows = record { made = 0; rows = [] }
-
 -- how many rows are kept in all tables, those in the trashcan too
 abbrev pub kept_rows : PrivateDatabase → ℕ
 kept_rows database = sum_by (λ table. length table.rows) database.current
-
--- the values of the rows that are visible, in the order of insertion
-abbrev pub visible_rows : TableContent → List (List Value)
-visible_rows table = map (λ row. row.values) (filter (λ row. row.visible) table.rows)
-
--- the table with one visible row more at its end
-abbrev pub with_row : TableContent → List Value → TableContent
-with_row table values = record { made = table.made + 1; rows = table.rows ++ record { visible = true; values = values } ∷ [] }
 
 -- a content of these tables, without a row
 abbrev pub empty_content : List Table → Content

@@ -6,7 +6,7 @@
 mod database;
 mod laws;
 
-pub use database::{Content, MarkedRow, PrivateDatabase, SavedContent, TableContent};
+pub use database::{Content, PrivateDatabase, SavedContent};
 pub use laws::{
     each_line_says_one_thing, each_text_says_something, isolation, refused_lines_change_nothing,
     two_worlds, unread_lines_need_no_service,

@@ -14,7 +14,7 @@ use Rattle.mt_tree.specs.declared.simple.SimpleStmt.{SimpleStmt}
 use Rattle.mt_tree.specs.declared.simple.SimpleStmt.TheVariants.{Insert, Select}
 use Rattle.mt_model.specs.Said.{Says}
 use Rattle.mt_model.specs.declared.database.PrivateDatabase.{PrivateDatabase}
-use Rattle.mt_model.specs.declared.database.TableContent.{TableContent}
+use Rattle.mt_tree.specs.declared.row.TableContent.{TableContent}
 use Rattle.mt_model.specs.Answer.{first_holding, columns_of, insert_tests, tests_at, table_of, first_refusal, reply_text, changed, answer_within, next_within}
 use Rattle.mt_model.specs.Database.{Content, no_rows, kept_rows, with_row}
 use Rattle.mt_model.specs.Service.{View}

@@ -5,8 +5,8 @@ use Rattle.std.proofs.lemmas.Option.{get_or_from_slice_get}
 use Rattle.std.proofs.lemmas.List.Sums.{sum_by-cons}
 use Rattle.mt_value.specs.declared.value.Value.{Value}
 use Rattle.mt_tree.specs.declared.schema.Table.{Table}
-use Rattle.mt_model.specs.declared.database.MarkedRow.{MarkedRow}
-use Rattle.mt_model.specs.declared.database.TableContent.{TableContent}
+use Rattle.mt_tree.specs.declared.row.MarkedRow.{MarkedRow}
+use Rattle.mt_tree.specs.declared.row.TableContent.{TableContent}
 use Rattle.mt_model.specs.Database.{Content, no_rows, empty_content, with_table, with_row}
 use Rattle.mt_private.specs.Kept.{filled}
 use Rattle.mt_private.specs.Outcome.{KeepsContent, AddsRow}

@@ -3,7 +3,7 @@ use Rattle.std.specs.Prelude.{ℕ, List, map, filter}
 use Rattle.mt_value.specs.declared.value.Value.{Value}
 use Rattle.mt_value.specs.Sorted.{in_row_order}
 use Rattle.mt_tree.specs.declared.schema.Column.{Column}
-use Rattle.mt_model.specs.declared.database.MarkedRow.{MarkedRow}
+use Rattle.mt_tree.specs.declared.row.MarkedRow.{MarkedRow}
 use Rattle.mt_model.specs.Answer.{select_text, output_names, places_of, projected}
 
 -- their values

@@ -10,8 +10,8 @@ ghost use Rattle.mt_private.specs.Outcome.{IsAnswered, KeepsContent, AddsRow};
 use crate::fit::{are_short, fit_columns};
 use crate::names::table_number;
 use mt_list::List;
-use mt_model::{Content, MarkedRow, PrivateDatabase, TableContent};
-use mt_tree::{Code, Columns, Literal, Reply, ReplyText, Schema, Tuple};
+use mt_model::{Content, PrivateDatabase};
+use mt_tree::{Code, Columns, Literal, MarkedRow, Reply, ReplyText, Schema, TableContent, Tuple};
 use mt_value::{Row, Str, Value};
 use std::alloc::{AllocError, Global};
 

@@ -13,8 +13,8 @@ ghost use Rattle.mt_private.specs.Outcome.{IsAnswered};
 use crate::names::{column_place, table_number};
 use crate::print::{push_names, push_rows};
 use mt_list::{Duplicate, List};
-use mt_model::{Content, MarkedRow, PrivateDatabase};
-use mt_tree::{Code, Column, Columns, Names, Reply, ReplyText, Schema};
+use mt_model::{Content, PrivateDatabase};
+use mt_tree::{Code, Column, Columns, MarkedRow, Names, Reply, ReplyText, Schema};
 use mt_value::{Row, Rows, Str, Value, sort_rows};
 use std::alloc::{AllocError, Global};
 

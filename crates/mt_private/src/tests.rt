@@ -1,6 +1,5 @@
 use crate::Plain;
-use mt_script::code_text;
-use mt_tree::{Code, Reply};
+use mt_script::reply_bytes;
 use std::test::Fail;
 
 /// Lines, and what each is answered.
@@ -96,21 +95,12 @@ const LINES: [(&str, &str); 44] = [
     ),
 ];
 
-/// What a reply prints.
-fn printed(reply: &Reply) -> &[u8] {
-    match reply {
-        Reply::Text(text) => text.as_bytes(),
-        Reply::Refused(code) => code_text(*code).as_bytes(),
-        Reply::Memory => code_text(Code::NoMemory).as_bytes(),
-    }
-}
-
 #[test]
 fn lines_are_answered(rt: HostRuntime) -> Result<(), Fail> {
     let mut plain = Plain::new(rt.alloc())?;
     for (line, expected) in LINES {
         let reply = plain.line(line.as_bytes());
-        assert_eq!(rt; printed(&reply), expected.as_bytes(), "{line}");
+        assert_eq!(rt; reply_bytes(&reply), expected.as_bytes(), "{line}");
     }
     Ok(())
 }

@@ -66,11 +66,28 @@ GoesOn (Ok took.TooLong) old new = new.budget + length new.held < old.budget + l
 GoesOn (Ok took.End) old new = Unit {0}
 GoesOn (Err e) old new = Unit {0}
 
--- a fault of the source is told only where its count rose
+-- a fault of the source is told where its count rose, and with any other answer the count stands
 abbrev pub SourceCause : Result Took ReadStop → ℕ → ℕ → Type 0
 SourceCause (Err stop.Source) before now = Rose before now
-SourceCause (Err stop.Budget) before now = Unit {0}
-SourceCause (Ok took) before now = Unit {0}
+SourceCause (Err stop.Budget) before now = now ≡ before
+SourceCause (Ok took) before now = now ≡ before
+
+-- no take was made
+pub record AsksNothing (taken : List ℕ) (before after : Supply) : Type 0 where
+  pub nothing : taken ≡ []
+  pub takes : after.takes ≡ before.takes
+
+-- Takes were made, and before the last of them no line had ended in what was held: so there was none
+-- before the others either.
+pub record AsksForLine (held taken : List ℕ) (after : Supply) : Type 0 where
+  -- what the takes before the last one gave
+  pub front : List ℕ
+  pub split : taken ≡ front ++ after.last
+  pub unended : has_line_feed (held ++ front) ≡ false
+
+-- Bytes are asked for only while no whole line is held.
+abbrev pub AsksInTurn : List ℕ → List ℕ → Supply → Supply → Type 0
+AsksInTurn held taken before after = AsksNothing taken before after ⊎ AsksForLine held taken after
 
 -- The next line of the input, or why there is none.
 pub record Nexts (result : Result Took ReadStop) (old new : Reading) (before after : Supply) : Type 0 where
@@ -81,7 +98,8 @@ pub record Nexts (result : Result Took ReadStop) (old new : Reading) (before aft
   pub budget : new.budget + length taken ≡ old.budget
   -- it asks for bytes only while it holds no whole line, and for none once the input has ended
   pub asks : has_line_feed old.held ≡ true → taken ≡ []
-  pub asks_no_more : old.ended ≡ true → (taken ≡ []) × (new.ended ≡ true)
+  pub asks_in_turn : IsTrue after.tells → AsksInTurn old.held taken before after
+  pub asks_no_more : old.ended ≡ true → (taken ≡ []) × (new.ended ≡ true) × (IsTrue after.tells → after.takes ≡ before.takes)
   pub ends : new.ended ≡ true → (old.ended ≡ true) ⊎ (IsTrue after.tells → after.left ≡ [])
   -- a take that answered the end of the input was asked with some of the budget left
   pub ends_within : new.ended ≡ true → (old.ended ≡ true) ⊎ (0 < new.budget)

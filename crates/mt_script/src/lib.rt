@@ -16,7 +16,7 @@ pub use blank::silent;
 pub use number::read_number;
 pub use reader::{LineReader, ReadStop, Took};
 pub use tag::{Tagged, split_tag, tags_are_determined};
-pub use text::code_text;
+pub use text::{code_text, reply_bytes};
 
 #[cfg(test)]
 mod tests;

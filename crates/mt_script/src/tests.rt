@@ -1,6 +1,8 @@
-use crate::{LineReader, ReadStop, Tagged, Took, code_text, read_number, silent, split_tag};
+use crate::{
+    LineReader, ReadStop, Tagged, Took, code_text, read_number, reply_bytes, silent, split_tag,
+};
 use mt_machine::{Failed, Source};
-use mt_tree::{Code, Who};
+use mt_tree::{Code, Reply, Who};
 use std::alloc::{AllocError, Global};
 use std::test::Fail;
 
@@ -161,11 +163,18 @@ fn names_refusals(rt: HostRuntime) {
     let cases = [
         (Code::LineTooLong, "error E01 line too long\n"),
         (Code::QuotaFull, "error E30 quota full\n"),
-        (Code::NoMemory, "error E90 no memory\n"),
     ];
     for (code, wanted) in cases {
         assert_eq!(rt; code_text(code), wanted);
     }
+    assert_eq!(rt;
+        reply_bytes(&Reply::Refused(Code::Syntax)),
+        b"error E10 syntax\n".as_slice()
+    );
+    assert_eq!(rt;
+        reply_bytes(&Reply::Memory),
+        b"error E90 no memory\n".as_slice()
+    );
 }
 
 #[test]

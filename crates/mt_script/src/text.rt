@@ -1,7 +1,7 @@
 ghost use Rattle.std.specs.Prelude.{◌≡◌};
-ghost use Rattle.mt_tree.specs.Replies.{refusal_text};
+ghost use Rattle.mt_tree.specs.Replies.{refusal_text, reply_bytes};
 
-use mt_tree::Code;
+use mt_tree::{Code, Reply};
 
 /// The whole reply of a refusal, `error Enn text` with its line feed.
 #[tactic(auto, unfolding(mt_tree::specs::Replies::refusal_text))]
@@ -39,6 +39,16 @@ pub fn code_text(code: Code) -> &'static str
         Code::TransactionIsOpen => "error E65 transaction is open\n",
         Code::TransactionAlreadyOpen => "error E70 transaction already open\n",
         Code::NoTransaction => "error E71 no transaction\n",
-        Code::NoMemory => "error E90 no memory\n",
+    }
+}
+
+/// What a reply prints, its last line feed included.
+pub fn reply_bytes(reply: &Reply) -> &[u8]
+    ensures { result.now ≡ reply_bytes reply.now }
+{
+    match reply {
+        Reply::Text(text) => text.as_bytes(),
+        Reply::Refused(code) => code_text(*code).as_bytes(),
+        Reply::Memory => b"error E90 no memory\n",
     }
 }

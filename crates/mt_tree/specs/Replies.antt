@@ -1,7 +1,7 @@
 -- The bytes of each reply, its last line feed included.
 use Rattle.std.specs.Prelude.{ℕ, List, codes}
 use Rattle.mt_tree.specs.declared.code.Code.{Code}
-use Rattle.mt_tree.specs.declared.code.Code.TheVariants.{LineTooLong, LineNotReadable, UnknownTenant, NotServed, Syntax, UnknownTable, UnknownColumn, AmbiguousName, TypesDoNotFit, Grouping, NumberOutside64Bits, TextTooLong, NumberOutOfRange, NullNotAllowed, DuplicateKey, QuotaFull, RowNumbersUsedUp, NameExists, ColumnNameTaken, UnknownName, Limit, QuotaBelowRows, QuotasTooLarge, FoldNotValid, TableIsMoving, TableIsNotMoving, TooManyChunks, TransactionIsOpen, TransactionAlreadyOpen, NoTransaction, NoMemory}
+use Rattle.mt_tree.specs.declared.code.Code.TheVariants.{LineTooLong, LineNotReadable, UnknownTenant, NotServed, Syntax, UnknownTable, UnknownColumn, AmbiguousName, TypesDoNotFit, Grouping, NumberOutside64Bits, TextTooLong, NumberOutOfRange, NullNotAllowed, DuplicateKey, QuotaFull, RowNumbersUsedUp, NameExists, ColumnNameTaken, UnknownName, Limit, QuotaBelowRows, QuotasTooLarge, FoldNotValid, TableIsMoving, TableIsNotMoving, TooManyChunks, TransactionIsOpen, TransactionAlreadyOpen, NoTransaction}
 use Rattle.mt_tree.specs.declared.reply.Reply.{Reply}
 use Rattle.mt_tree.specs.declared.reply.Reply.TheVariants.{Text, Refused, Memory}
 
@@ -37,10 +37,9 @@ refusal_text TooManyChunks = codes "error E63 too many chunks\n"
 refusal_text TransactionIsOpen = codes "error E65 transaction is open\n"
 refusal_text TransactionAlreadyOpen = codes "error E70 transaction already open\n"
 refusal_text NoTransaction = codes "error E71 no transaction\n"
-refusal_text NoMemory = codes "error E90 no memory\n"
 
 -- what a reply prints
 abbrev pub reply_bytes : Reply → List ℕ
 reply_bytes (Text bytes) = bytes
 reply_bytes (Refused code) = refusal_text code
-reply_bytes Memory = refusal_text NoMemory
+reply_bytes Memory = codes "error E90 no memory\n"

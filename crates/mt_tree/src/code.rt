@@ -1,4 +1,5 @@
-/// Why a line is refused: one variant for each refusal number, in the order of the numbers.
+/// Why a line is refused: one variant for each refusal number, in the order of the numbers. Want of
+/// memory (E90) is no refusal: `Reply::Memory` says it.
 #[derive(Clone, Copy, Debug, PartialEq, Eq)]
 pub enum Code {
     /// E01
@@ -61,6 +62,4 @@ pub enum Code {
     TransactionAlreadyOpen,
     /// E71
     NoTransaction,
-    /// E90
-    NoMemory,
 }

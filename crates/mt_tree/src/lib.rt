@@ -8,6 +8,7 @@ mod command;
 mod expression;
 mod name;
 mod reply;
+mod row;
 mod schema;
 mod simple;
 mod statement;
@@ -18,6 +19,7 @@ pub use command::{AdminCmd, ChunkText, Def, DefKind, FoldText};
 pub use expression::{Agg, Atom, Cond, Expr, Literal, Term};
 pub use name::{ColName, Names, is_name};
 pub use reply::{Reply, ReplyText};
+pub use row::{MarkedRow, TableContent};
 pub use schema::{Column, Columns, Kind, Schema, Table};
 pub use simple::{SimpleCmd, SimpleDef, SimpleStmt};
 pub use statement::{

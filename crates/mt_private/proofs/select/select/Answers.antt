@@ -4,7 +4,7 @@ use Rattle.std.specs.Prelude.{is_some}
 use Rattle.std.specs.List.{list_all}
 use Rattle.mt_tree.specs.declared.reply.Reply.TheVariants.{Text}
 use Rattle.mt_tree.specs.declared.schema.Column.{Column}
-use Rattle.mt_model.specs.declared.database.MarkedRow.{MarkedRow}
+use Rattle.mt_tree.specs.declared.row.MarkedRow.{MarkedRow}
 use Rattle.mt_model.specs.Tables.{column_place}
 use Rattle.mt_private.specs.Visible.{select_text_of}
 use Rattle.mt_private.proofs.Decided.{select-refused, select-done}
