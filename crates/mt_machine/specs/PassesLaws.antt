@@ -1,6 +1,6 @@
 -- How stretches that may put something out join, and what they keep.
 use Rattle.std.specs.Prelude.{Result}
-use Rattle.std.proofs.Common.{◌≡◌, ◌⊎◌, ℕ, ◌≤◌, IsTrue, List, [], ◌++◌, refl, sym, ap, subst, ◌∙◌, inl, inr, le_refl, le_trans, append_assoc}
+use Rattle.std.proofs.Common.{◌≡◌, ◌⊎◌, ℕ, IsTrue, List, [], ◌++◌, refl, sym, ap, subst, ◌∙◌, inl, inr, le_refl, le_trans, append_assoc}
 use Rattle.std.proofs.lemmas.List.{append-nil}
 use Rattle.mt_machine.specs.Meaning.{Disk, Meaning}
 use Rattle.mt_machine.specs.Calls.{Elapses, Emits}

@@ -200,3 +200,12 @@ fn sources_give_pieces(rt: HostRuntime) -> Result<(), Fail> {
     assert!(rt; steady.left().is_empty());
     Ok(())
 }
+
+#[test]
+fn an_empty_write_takes_no_room(rt: HostRuntime) -> Result<(), Fail> {
+    let mut machine = SteadyMachine::new(rt.alloc());
+    machine.write(Area::Pages, 1 << 41, &[])?;
+    assert!(rt; machine.telling());
+    assert!(rt; machine.pages().is_empty());
+    Ok(())
+}

@@ -1,12 +1,12 @@
 -- The rows of a table, and which lists of rows its columns refuse.
-use Rattle.std.specs.Prelude.{ℕ, ◌+◌, Bool, true, false, not, ◌&&◌, ◌||◌, nat_le, if◌then◌else◌, List, [], ◌∷◌, ◌++◌, length, map, filter}
+use Rattle.std.specs.Prelude.{◌+◌, Bool, true, false, not, ◌&&◌, ◌||◌, nat_le, if◌then◌else◌, List, [], ◌∷◌, ◌++◌, length, map, filter}
 use Rattle.std.specs.List.{list_any}
 use Rattle.std.specs.Ordering.{is_eq}
 use Rattle.mt_value.specs.declared.value.Value.{Value}
-use Rattle.mt_value.specs.declared.value.Value.TheVariants.{Null, Int, Text}
+use Rattle.mt_value.specs.declared.value.Value.TheVariants.{Text}
 use Rattle.mt_value.specs.Order.{is_null, row_order}
 use Rattle.mt_tree.specs.declared.schema.Kind.{Kind}
-use Rattle.mt_tree.specs.declared.schema.Kind.TheVariants.{Integer, Varchar}
+use Rattle.mt_tree.specs.declared.schema.Kind.TheVariants.{Varchar}
 use Rattle.mt_tree.specs.declared.schema.Column.{Column}
 pub use Rattle.mt_tree.specs.declared.row.MarkedRow.{MarkedRow}
 pub use Rattle.mt_tree.specs.declared.row.TableContent.{TableContent}

@@ -1,10 +1,11 @@
 use crate::{
-    Cmp, Row, Rows, Str, StrFault, Truth, Value, and, compare, logic_is_symmetric, not, or,
-    orders_are_total, row_order, sort_rows, split_quote, value_order,
+    Cmp, Row, Rows, Str, StrFault, Truth, Value, and, compare, compare_any, logic_is_symmetric,
+    not, or, orders_are_total, row_order, sort_rows, split_quote, value_order,
 };
 use mt_list::List;
 use std::alloc::Global;
 use std::cmp::Ordering;
+use std::hash::{DefaultHasher, Hash, Hasher};
 use std::test::Fail;
 
 const TRUTHS: [Truth; 3] = [Truth::False, Truth::Unknown, Truth::True];
@@ -199,6 +200,38 @@ fn makes_texts_of_characters(rt: HostRuntime) -> Result<(), Fail> {
     for text in ["", "a", "Zoë's"] {
         let made = Str::from_str(rt.alloc(), text)?;
         assert_eq!(rt; made.as_str(), text);
+    }
+    Ok(())
+}
+
+#[test]
+fn compares_values_of_two_kinds(rt: HostRuntime) -> Result<(), Fail> {
+    let number = Value::Int(7);
+    let text = Value::Text(Str::from_str(rt.alloc(), "7")?);
+    assert_eq!(rt; compare_any(Cmp::Lt, &number, &text), Truth::True);
+    assert_eq!(rt; compare_any(Cmp::Eq, &number, &text), Truth::False);
+    assert_eq!(rt; compare_any(Cmp::Eq, &text, &Value::Null), Truth::Unknown);
+    Ok(())
+}
+
+/// What a value feeds a hasher, as one number.
+fn hash_of<T: Hash>(value: &T) -> u64 {
+    let mut state = DefaultHasher::new();
+    value.hash(&mut state);
+    state.finish()
+}
+
+#[test]
+fn rows_are_keys(rt: HostRuntime) -> Result<(), Fail> {
+    let alloc = rt.alloc();
+    let first = row(alloc, Some(1), Some("a"))?;
+    let same = row(alloc, Some(1), Some("a"))?;
+    assert!(rt; first == same);
+    assert_eq!(rt; hash_of(&first), hash_of(&same));
+    for (number, text) in [(Some(2), Some("a")), (None, Some("a")), (Some(1), None)] {
+        let other = row(alloc, number, text)?;
+        assert!(rt; first != other);
+        assert_ne!(rt; hash_of(&first), hash_of(&other));
     }
     Ok(())
 }
