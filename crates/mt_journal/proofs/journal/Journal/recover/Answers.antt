@@ -17,8 +17,7 @@ returns-in_err-close_first-clause-any_moment g c =
     let read = looks_then synced c.chain_end.ensures.looks in
     let durable = durable_looks _ _ c.chain_end.ensures.looks c.in_ok-sync.ensures.effect.durable in
     let found = chain_found _ _ _ synced c.chain_end.ensures.looks c.in_ok-end.end c.in_ok-end.ensures.found in
-    close_leaves _ _ _ c.in_ok-end.end read durable found c.replay.ensures.quiet c.replay.ensures.places _ c.if-end-eq0.false c.in_ok-replay.ensures.placed
-    (g.met.M.Machine.content_is_image c.replay.new.m) c.close_first.ensures.leaves
+    close_leaves _ _ _ c.in_ok-end.end read durable found c.replay.ensures.quiet c.replay.ensures.places _ c.if-end-eq0.false c.in_ok-replay.ensures.placed c.close_first.ensures.leaves
 
 pub returns-clause-any_moment : goal.returns-clause-any_moment
 returns-clause-any_moment g c =
@@ -26,8 +25,7 @@ returns-clause-any_moment g c =
     let read = looks_then synced c.chain_end.ensures.looks in
     let durable = durable_looks _ _ c.chain_end.ensures.looks c.in_ok-sync.ensures.effect.durable in
     let found = chain_found _ _ _ synced c.chain_end.ensures.looks c.in_ok-end.end c.in_ok-end.ensures.found in
-    close_leaves _ _ _ c.in_ok-end.end read durable found c.replay.ensures.quiet c.replay.ensures.places _ c.if-end-eq0.false c.in_ok-replay.ensures.placed
-    (g.met.M.Machine.content_is_image c.replay.new.m) c.close_first.ensures.leaves
+    close_leaves _ _ _ c.in_ok-end.end read durable found c.replay.ensures.quiet c.replay.ensures.places _ c.if-end-eq0.false c.in_ok-replay.ensures.placed c.close_first.ensures.leaves
 
 pub returns-clause-ok : goal.returns-clause-ok
 returns-clause-ok g c =
