@@ -2,7 +2,6 @@ pub mod Torn
 pub mod Walks
 pub mod Behind
 pub mod Bodies
-pub mod Causes
 pub mod Chains
 pub mod Committing
 pub mod Copies

@@ -44,13 +44,6 @@ chain_found old synced read one two end found t =
     let chain = found t in
     (chain.0, subst (λ (d : Disk). IsChain (d Log) chain.0 end) (one.content (two.leaves.told t)) chain.1)
 
--- what is as before replays as before
-pub keeps_same : (old new : Disk) → new ≡ old → KeepsReplay old new
-keeps_same old new same = record {
-  replays = λ pages replays. subst (λ (d : Disk). Replays d pages) (sym same) replays;
-  damaged = λ _. same;
-}
-
 -- From the start on the machine was looked at, and from then on what was read is what is on the disk.
 module _ (old read new : Meaning) (end : ℕ) (looks : Looks old read) (durable : IsDurable read) (found : IsTrue read.tells → (groups : List (List Range)) × IsChain (old.content Log) groups end)
     (quiet : IsQuiet read new) (places : (groups : List (List Range)) → ToldChain read groups end → Places (all_ranges groups) read new) where
@@ -125,11 +118,13 @@ module _ (old read new : Meaning) (end : ℕ) (looks : Looks old read) (durable 
         (λ torn. inr (replayed before, old_replays before, torn_replays t image torn (replayed before) (old_replays before)))
         arises)
 
-    pub close_keeps : (IsTrue last.tells → IsTrue new.tells) → (IsTrue last.tells → Torn Log 0 1 new.content last.content) → IsTrue last.tells → KeepsReplay old.content last.content
-    close_keeps told torn t = record {
-      replays = torn_replays (told t) last.content (torn t);
-      damaged = λ damaged. absurd (never_damaged (quiet.told (told t)) damaged);
-    }
+    pub close_keeps : Leaves (OldOrFirstGate new) new last → (IsTrue last.tells → Torn Log 0 1 new.content last.content) → IsTrue last.tells → KeepsReplay old.content last.content
+    close_keeps leaves torn t =
+        let told = leaves.told t in
+        record {
+          replays = torn_replays told last.content (torn t);
+          damaged = λ damaged. absurd (never_damaged (quiet.told told) damaged);
+        }
 
     pub close_recovers : Leaves (OldOrFirstGate new) new last → ClosesFirst new last → Recovered old last
     close_recovers leaves closes = record {
