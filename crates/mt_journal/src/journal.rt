@@ -24,8 +24,8 @@ pub enum RecoverFault {
     /// A call on the disk failed.
     #[error("disk fault")]
     Disk,
-    /// The chain of open groups does not decode. Nothing was written, where the machine reads as it
-    /// holds.
+    /// The chain of open groups does not decode. Nothing was written, if the machine tells its
+    /// content.
     #[error("damaged log")]
     Damaged,
 }
@@ -46,7 +46,8 @@ impl Model for Journal {
 
 impl Journal {
     /// Syncs, looks through the whole chain of open groups, writes its ranges in place, and empties
-    /// the log where it had a group. After `Damaged` nothing was written. It takes no memory.
+    /// the log where it had a group. After `Damaged` nothing was written, if the machine tells its
+    /// content; after `Disk` the disk replays to what it did. It takes no memory.
     pub fn recover<M: Machine>(m: &mut M) -> Result<Journal, RecoverFault>
         ensures ok { IfOk result (λ journal. (journal ≡ 0) × Recovered (M.meaning m.old) (M.meaning m.new)) }
         // At each moment the disk is one that a stop before the call could leave, or it replays to
