@@ -13,7 +13,7 @@ use Rattle.mt_journal.specs.Spelling.{spelling_of}
 abbrev pub payload_size : List Range → ℕ
 payload_size ranges = 4 + sum_by range_size ranges
 
--- a fault of the disk was counted, and where another answer comes none was
+-- the answer `Disk` comes with a fault that was counted, and each other answer with none
 abbrev pub DiskCause : {T : Type 0} → Result T RecoverFault → ℕ → ℕ → Type 0
 DiskCause (Ok value) before now = now ≡ before
 DiskCause (Err faults.Disk) before now = Rose before now

@@ -3,7 +3,8 @@
 //! ranges written in place, so that what a stop tears there is mended by the replay of the log.
 //! It promises that a commit is whole or absent at each moment, that a recovery writes what the log
 //! says and changes no replay, nor anything where the log does not decode, and that a reset changes
-//! none either; and that a call answers a fault of the disk just where the machine counted one.
+//! none either, each where the machine tells its content or its moments; and that a call answers a
+//! fault of the disk just where the machine counted one.
 #![tactic(auto)]
 
 mod body;

@@ -2,7 +2,10 @@ ghost use Rattle.std.specs.Prelude.{◌≡◌, ◌+◌, ◌≤◌, ◌<◌, ◌^
 ghost use Rattle.mt_machine.specs.InMemory.{mem_meaning};
 ghost use Rattle.mt_journal.specs.Commits.{StandsFor};
 
-use crate::{Body, Journal, RangeAt, RecoverFault, chains_are_determined, next_group, next_range, standing_is_kept};
+use crate::{
+    Body, Journal, RangeAt, RecoverFault, chains_are_determined, next_group, next_range,
+    standing_is_kept,
+};
 use mt_list::List;
 use mt_machine::{
     Area, Bytes, CallKind, FailList, Failed, Fill, Machine, MemMachine, SteadyMachine, Stopped,
