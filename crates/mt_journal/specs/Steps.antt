@@ -9,10 +9,6 @@ use Rattle.mt_journal.specs.Layout.{Range, StandAt, number_at}
 use Rattle.mt_journal.specs.Layout as layout
 use Rattle.mt_journal.specs.Replay.{with_ranges}
 
--- a machine that tells its moments tells its content
-abbrev pub TellsBoth : Meaning → Type 0
-TellsBoth machine = IsTrue machine.tells_moments → IsTrue machine.tells
-
 -- nothing was put out, whatever a stop leaves
 abbrev pub IsQuiet : Meaning → Meaning → Type 0
 IsQuiet old new = Leaves (λ _. Unit {0}) old new
