@@ -16,6 +16,7 @@ name_checked bytes text false some upto is h =
 -- a column whose flags can be read can be read where its name can
 pub column_checked : (body name : List ℕ) (read : Bool) → slice_index body 11 ≤ 1 → slice_index body 12 ≤ 1 → name ≡ drop 13 body
     → IsTrue read ↔ IsNameField name → IsTrue read ↔ IsBody 9 body
-column_checked body name read not_null key is h =
-    (λ t. record { table_name = λ e. absurd (cc); column_name = λ _. rw is at (h.0 t); not_null = λ _. not_null; key = λ _. key },
-     λ column. h.1 (rw is (column.column_name refl)))
+column_checked body name read not_null key is h = (
+  λ t. record { table_name = λ e. absurd (cc); column_name = λ _. rw is at (h.0 t); not_null = λ _. not_null; key = λ _. key },
+  λ column. h.1 (rw is (column.column_name refl)),
+)

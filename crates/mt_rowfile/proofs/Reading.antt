@@ -34,7 +34,6 @@ same_slot a b mark tenant base chunk row values =
     parts
 
 module _ (again : (kind : FieldKind) (v : Value) → IsKind kind → Fits kind v → IsField kind (field_bytes kind v) v) where
-
   -- what is written for values reads as them
   fields_again : (kinds : List FieldKind) (values : List Value) → AreKinds kinds → AreFitting kinds values → values_of kinds (fields_bytes kinds values) ≡ values
   fields_again [] [] are fit = refl
@@ -58,9 +57,10 @@ module _ (again : (kind : FieldKind) (v : Value) → IsKind kind → Fits kind v
   fields_spelled (kind ∷ kinds) (v ∷ values) are fit =
       let field = field_bytes kind v in
       let rest = fields_bytes kinds values in
-      let long = field_long kind v fit.0 in
-      ((v, rw (take_at field rest (width_of kind) long) (again kind v are.0 fit.0)),
-       rw (drop_at field rest (width_of kind) long) (fields_spelled kinds values are.1 fit.1))
+      let long = field_long kind v fit.0 in (
+        (v, rw (take_at field rest (width_of kind) long) (again kind v are.0 fit.0)),
+        rw (drop_at field rest (width_of kind) long) (fields_spelled kinds values are.1 fit.1),
+      )
 
   -- the slot is read again
   pub slot_again : (head : Head) (kinds : List FieldKind) (slot : SlotRow) → IsOfRows head → AreKinds kinds

@@ -26,7 +26,11 @@ pub(crate) fn check_fields(kinds: &[FieldKind], bytes: &[u8]) -> bool
 }
 
 /// The values of the fields: `Bad` where one spells none, `Memory` for want of memory.
-pub(crate) fn read_fields(alloc: Global, kinds: &[FieldKind], bytes: &[u8]) -> Result<Row, SlotFault>
+pub(crate) fn read_fields(
+    alloc: Global,
+    kinds: &[FieldKind],
+    bytes: &[u8],
+) -> Result<Row, SlotFault>
     requires { length bytes.now ≡ fields_width kinds.now }
     ensures values { IfOk result (λ values. values ≡ values_of kinds.now bytes.now) }
     ensures spelled { OnOk result (AreSpelled kinds.now bytes.now) }

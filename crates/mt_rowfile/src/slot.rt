@@ -140,7 +140,11 @@ fn read_once(alloc: Global, layout: &Layout, bytes: &[u8]) -> Result<SlotRow, Sl
     if bytes.len() != slot_width(layout) || !check_mark(layout.head, bytes[0]) {
         return Err(SlotFault::Bad);
     }
-    let values = read_fields(alloc, layout.kinds.as_slice(), &bytes[head_width(layout.head)..])?;
+    let values = read_fields(
+        alloc,
+        layout.kinds.as_slice(),
+        &bytes[head_width(layout.head)..],
+    )?;
     Ok(SlotRow {
         mark: bytes[0],
         tenant: LittleEndian::read_u32(&bytes[1..]),

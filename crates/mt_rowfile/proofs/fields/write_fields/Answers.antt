@@ -9,7 +9,7 @@ use Rattle.mt_rowfile.proofs.fields.write_fields.Goals as goal
 pub write_part-requires-clause-fits : goal.write_part-requires-clause-fits
 write_part-requires-clause-fits c =
     subst (Fits (get_or c.args.kinds.now c.loop-i.i Int)) (sym c.index-values-i.is)
-        (fitting_at c.args.kinds.now c.args.values.now c.loop-i.i Int c.index-values-i.result c.requires.fit c.loop-i-test.true)
+    (fitting_at c.args.kinds.now c.args.values.now c.loop-i.i Int c.index-values-i.result c.requires.fit c.loop-i-test.true)
 
 pub loop-i-preserved : goal.loop-i-preserved
 loop-i-preserved c =

@@ -6,5 +6,5 @@ abbrev pub invariant-loop-i : goal.invariant-loop-i
 invariant-loop-i l = record {
   room : l.width * (l.count - l._i) ≤ length l.rest;
   few : l.free ≤ l._i;
-  counted : l.free + length (filter is_free (slots_in l.width (l.count - l._i) l.rest)) ≡ free_slots l.fn.layout.now l.fn.page.now;
+  counted : l.free + length (filter is_free (slots_in l.width (l.count - l._i) l.rest)) ≡ free_slots l.fn.layout l.fn.page;
 }
