@@ -1,7 +1,6 @@
 -- Worked examples: how wide the slots of each shape are, and how many stand in a page.
-use Rattle.std.proofs.Common.{◌≡◌, ℕ, List, [], ◌∷◌, refl}
+use Rattle.std.proofs.Common.{◌≡◌, ℕ, [], ◌∷◌, refl}
 use Rattle.mt_codec.specs.declared.field.FieldKind.TheVariants.{Int, Text}
-use Rattle.mt_rowfile.specs.declared.layout.Head.{Head}
 use Rattle.mt_rowfile.specs.declared.layout.Head.TheVariants.{Catalogue, Conventional}
 use Rattle.mt_rowfile.specs.declared.layout.Layout.{Layout}
 use Rattle.mt_rowfile.specs.Layouts.{chunk_layout, slot_width, slots_per_page}

@@ -1,5 +1,5 @@
 -- The names in the catalogue.
-use Rattle.std.proofs.Common.{◌≡◌, ◌≢◌, ◌↔◌, ℕ, ◌+◌, ◌-◌, ◌≤◌, List, take, drop, slice_index, Bool, true, false, IsTrue, MatchBool, refl, arith}
+use Rattle.std.proofs.Common.{◌≡◌, ◌≢◌, ◌↔◌, ℕ, ◌≤◌, List, take, drop, slice_index, Bool, true, false, IsTrue, MatchBool, refl, arith}
 use Rattle.std.specs.Str.{IsAscii, IsNotAscii}
 use Rattle.std.proofs.lemmas.Str.Ascii.{IsAscii-from_all, All-from_ascii}
 use Rattle.mt_rowfile.specs.Slots.{IsBody, IsNameField}

@@ -1,5 +1,5 @@
 -- What is written for a slot is read again.
-use Rattle.std.proofs.Common.{◌≡◌, ℕ, suc, ◌+◌, ◌^◌, ◌<◌, ◌≤◌, List, [], ◌∷◌, ◌++◌, length, take, drop, refl, sym, ap, ◌∙◌, inr, arith, eq-eqb}
+use Rattle.std.proofs.Common.{◌≡◌, ℕ, List, [], ◌∷◌, ◌++◌, take, drop, refl, sym, ap, ◌∙◌, inr, arith}
 use Rattle.std.proofs.lemmas.List.{take_at, drop_at}
 use Rattle.byteorder.specs.Numbers.{little_number-reads_back}
 use Rattle.mt_value.specs.declared.value.Value.{Value}
@@ -9,11 +9,10 @@ use Rattle.mt_codec.specs.declared.field.FieldKind.TheVariants.{Int, Text}
 use Rattle.mt_codec.specs.Fields.{Fits, IsField, IsKind, field_bytes, width_of}
 use Rattle.mt_rowfile.specs.declared.layout.Head.{Head}
 use Rattle.mt_rowfile.specs.declared.layout.Head.TheVariants.{Catalogue, Conventional, Chunk}
-use Rattle.mt_rowfile.specs.declared.layout.Layout.{Layout}
 use Rattle.mt_rowfile.specs.declared.slot.SlotRow.{SlotRow}
 use Rattle.mt_rowfile.specs.Fields.{AreFitting, AreKinds, AreSpelled, fields_bytes, value_of, values_of}
-use Rattle.mt_rowfile.specs.Layouts.{IsOfRows, fields_width, slot_width}
-use Rattle.mt_rowfile.specs.Slots.{FitsLayout, HasNumbers, IsSlot, IsUsed, slot_bytes, slot_of}
+use Rattle.mt_rowfile.specs.Layouts.{IsOfRows}
+use Rattle.mt_rowfile.specs.Slots.{FitsLayout, HasNumbers, IsSlot, slot_bytes, slot_of}
 use Rattle.mt_rowfile.proofs.Writing.{field_long, fields_long}
 
 -- a value that a field spells is the one that it reads as

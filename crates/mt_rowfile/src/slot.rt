@@ -73,7 +73,7 @@ impl From<AllocError> for SlotFault {
     }
 }
 
-/// Whether the bytes are a slot: free, or of a row that can be read. It takes no memory.
+/// Whether the bytes are a slot: one that is free, or one that can be read. It takes no memory.
 pub fn check_slot(layout: &Layout, bytes: &[u8]) -> bool
     requires { IsLayout layout.now }
     ensures { IsTrue result ↔ IsSlot layout.now bytes.now }

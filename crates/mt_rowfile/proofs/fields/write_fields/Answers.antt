@@ -1,4 +1,4 @@
-use Rattle.std.proofs.Common.{◌≡◌, ℕ, ◌+◌, ◌++◌, List, take, drop, get_or, sym, ap, subst, ◌∙◌, add-one}
+use Rattle.std.proofs.Common.{ℕ, ◌+◌, ◌++◌, take, drop, get_or, sym, ap, subst, ◌∙◌, add-one}
 use Rattle.std.proofs.lemmas.List.Sums.{sum_by_more}
 use Rattle.mt_value.specs.declared.value.Value.{Value}
 use Rattle.mt_codec.specs.declared.field.FieldKind.TheVariants.{Int}

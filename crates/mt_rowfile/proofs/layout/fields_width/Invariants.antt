@@ -1,4 +1,4 @@
-use Rattle.std.proofs.Common.{◌≡◌, ◌≤◌, ◌*◌, ℕ, take}
+use Rattle.std.proofs.Common.{◌≡◌, ◌≤◌, ◌*◌, take}
 use Rattle.mt_rowfile.specs.Layouts.{fields_width}
 use Rattle.mt_rowfile.proofs.layout.fields_width.Given as goal
 

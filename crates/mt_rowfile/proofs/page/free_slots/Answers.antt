@@ -1,5 +1,5 @@
-use Rattle.std.proofs.Common.{◌≡◌, ℕ, ◌+◌, ◌-◌, ◌/◌, suc, refl, sym, ap, ◌∙◌, arith}
-use Rattle.mt_rowfile.proofs.Counting.{behind_head, free_counted, free_of, none_counted, room_for_all, room_for_others, used_passed}
+use Rattle.std.proofs.Common.{◌≡◌, ℕ, ◌+◌, ◌-◌, ◌/◌, suc, sym, ap, ◌∙◌, arith}
+use Rattle.mt_rowfile.proofs.Counting.{behind_head, free_counted, none_counted, room_for_all, room_for_others, used_passed}
 use Rattle.mt_rowfile.proofs.page.free_slots.Goals as goal
 use Rattle.mt_rowfile.proofs.page.free_slots.Goals.{then-slot-eq-FREE, else-slot-eq-FREE}
 
