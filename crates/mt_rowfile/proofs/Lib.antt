@@ -1,0 +1,5 @@
+pub mod Writing
+pub mod Reading
+pub mod Names
+pub mod Counting
+pub mod Examples
