@@ -8,8 +8,8 @@ use Rattle.mt_script.specs.declared.reader.Took.{Took}
 use Rattle.mt_script.specs.declared.reader.Took.TheVariants as took
 use Rattle.mt_script.specs.declared.reader.ReadStop.{ReadStop}
 use Rattle.mt_script.specs.declared.reader.ReadStop.TheVariants as stop
-use Rattle.mt_script.specs.Reader.{Reading, BeginsWith, IsLast, GivesOut, HoldsBack, IsGivenLine, Outcome, GoesOn, Nexts}
-use Rattle.mt_script.specs.Steps.{IsFirstFeed, LetsGo, GivesLine, NeedsMore, StandsFor, TakesOn, StopCause}
+use Rattle.mt_script.specs.Reader.{Reading, BeginsWith, IsLast, GivesOut, HoldsBack, IsGivenLine, Outcome, GoesOn, AsksForLine, AsksInTurn, Nexts}
+use Rattle.mt_script.specs.Steps.{IsFirstFeed, LetsGo, GivesLine, NeedsMore, StandsFor, TakesInTurn, TakesOn, StopCause}
 use Rattle.mt_script.proofs.Lines.{has_line_feed-append, has_line_feed-take, every_line_same, every_ended_same, nil_from_every_line, every_line-feed, every_ended-feed, every_line-none, line_of-long, line_of-short, length-without_return, has_line_feed-without_return}
 
 -- bytes stand for themselves
@@ -79,32 +79,80 @@ Outcome-stands took.TooLong bytes held new stands outcome = GivesOut-stands byte
 Outcome-stands took.End bytes held new stands outcome =
     (nil_from_every_line bytes (StandsFor-lines bytes held stands ∙ ap every_line outcome.0), outcome.1, outcome.2)
 
+-- what one take gives, where no line had ended before it
+pub AsksForLine-piece : (held piece : List ℕ) (after : Supply) → has_line_feed held ≡ false → after.last ≡ piece → AsksForLine held piece after
+AsksForLine-piece held piece after none last = record {
+  front = [];
+  split = sym last;
+  unended = rw append-nil none;
+}
+
 -- one piece more: of what was held at most n bytes are kept, and the piece stands behind them
-pub TakesOn-piece : (n : ℕ) (piece : List ℕ) (old new : Reading) (before after : Supply) → 65536 < n → old.ended ≡ false → has_line_feed old.held ≡ false → new.held ≡ take n old.held ++ piece → new.budget + length piece ≡ old.budget → (new.ended ≡ true → (IsTrue after.tells → after.left ≡ []) × (0 < new.budget)) → (IsTrue after.tells → IsTrue before.tells) → (IsTrue after.tells → before.left ≡ piece ++ after.left) → before.faults ≤ after.faults → TakesOn old new before after
-TakesOn-piece n piece old new before after many not_ended none held budget ends told input faults = record {
+pub TakesOn-piece : (n : ℕ) (piece : List ℕ) (old new : Reading) (before after : Supply) → 65536 < n → old.ended ≡ false → has_line_feed old.held ≡ false → new.held ≡ take n old.held ++ piece → new.budget + length piece ≡ old.budget → (new.ended ≡ true → (IsTrue after.tells → after.left ≡ []) × (0 < new.budget)) → (IsTrue after.tells → IsTrue before.tells) → (IsTrue after.tells → before.left ≡ piece ++ after.left) → (IsTrue after.tells → TakesInTurn old.held piece before after) → TakesOn old new before after
+TakesOn-piece n piece old new before after many not_ended none held budget ends told input in_turn = record {
   taken = piece;
   told = told;
   input = input;
   budget = budget;
   asks = λ yes. absurd (false≢true (sym none ∙ yes));
+  in_turn = in_turn;
   asks_no_more = λ yes. absurd (false≢true (sym not_ended ∙ yes));
   ends = λ yes. inr (ends yes).0;
   ends_within = λ yes. inr (ends yes).1;
   stands = rw held (StandsFor-append old.held (take n old.held) piece (StandsFor-short n old.held many none));
   no_more = omega (arith, ap length held, length-append (take n old.held) piece, length-take n old.held);
-  faults = faults;
 }
 
 -- no piece came: of what was held at most n bytes are kept
-pub TakesOn-nothing : (n : ℕ) (old new : Reading) (before after : Supply) → 65536 < n → old.ended ≡ false → has_line_feed old.held ≡ false → new.held ≡ take n old.held → new.budget ≡ old.budget → new.ended ≡ old.ended → (IsTrue after.tells → IsTrue before.tells) → (IsTrue after.tells → after.left ≡ before.left) → before.faults ≤ after.faults → TakesOn old new before after
-TakesOn-nothing n old new before after many not_ended none held budget ended told left faults =
+pub TakesOn-nothing : (n : ℕ) (old new : Reading) (before after : Supply) → 65536 < n → old.ended ≡ false → has_line_feed old.held ≡ false → new.held ≡ take n old.held → new.budget ≡ old.budget → new.ended ≡ old.ended → (IsTrue after.tells → IsTrue before.tells) → (IsTrue after.tells → after.left ≡ before.left) → (IsTrue after.tells → TakesInTurn old.held [] before after) → TakesOn old new before after
+TakesOn-nothing n old new before after many not_ended none held budget ended told left in_turn =
     TakesOn-piece n [] old new before after many not_ended none (held ∙ sym (append-nil (take n old.held))) (omega arith)
-    (λ yes. absurd (false≢true (sym not_ended ∙ sym ended ∙ yes))) told (λ tells. sym (left tells)) faults
+    (λ yes. absurd (false≢true (sym not_ended ∙ sym ended ∙ yes))) told (λ tells. sym (left tells)) in_turn
 
 -- a take of no bytes is the end of the input
 pub left_at_end : (n : ℕ) (piece : List ℕ) (before after : Supply) → n ≡ 0 → (n ≡ 0 → IsTrue after.tells → before.left ≡ []) → (IsTrue after.tells → before.left ≡ take n piece ++ after.left) → IsTrue after.tells → after.left ≡ []
 left_at_end n piece before after nothing end moved tells =
     sym (rw nothing at (moved tells)) ∙ end nothing tells
+
+-- takes before the last one, where what is held stands for what they gave
+AsksForLine-behind : (held taken kept more : List ℕ) (after : Supply) → StandsFor (held ++ taken) kept → AsksForLine kept more after → AsksForLine held (taken ++ more) after
+AsksForLine-behind held taken kept more after stands asks = record {
+  front = taken ++ asks.front;
+  split = ap (λ bytes. taken ++ bytes) asks.split ∙ sym (append_assoc taken asks.front after.last);
+  unended = rw (← append_assoc held taken asks.front) ((StandsFor-append (held ++ taken) kept asks.front stands).feeds ∙ asks.unended);
+}
+
+-- takes in turn, and then others in turn
+TakesInTurn-more : (held taken kept more : List ℕ) (before between after : Supply) → StandsFor (held ++ taken) kept → (IsTrue between.tells → TakesInTurn held taken before between) → TakesInTurn kept more between after → IsTrue between.tells → TakesInTurn held (taken ++ more) before after
+TakesInTurn-more held taken kept more before between after stands first second tells =
+    ⊎_elim
+    (λ rests. rw (rests.0, rests.1, append-nil) (first tells))
+    (λ asks. inr (AsksForLine-behind held taken kept more after stands asks))
+    second
+
+-- what a reader's next line says of it
+AsksInTurn-from : (held taken : List ℕ) (before after : Supply) → TakesInTurn held taken before after → AsksInTurn held taken before after
+AsksInTurn-from held taken before after in_turn =
+    ⊎_elim
+    (λ rests. inl (record { nothing = rests.0; takes = ap (λ (supply : Supply). supply.takes) rests.1 }))
+    inr
+    in_turn
+
+-- a reader that has done nothing yet
+pub TakesOn-start : (reading : Reading) (supply : Supply) → TakesOn reading reading supply supply
+TakesOn-start reading supply = record {
+  taken = [];
+  told = λ tells. tells;
+  input = λ tells. refl;
+  budget = omega arith;
+  asks = λ yes. refl;
+  in_turn = λ tells. inl (refl, refl);
+  asks_no_more = λ yes. (refl, yes, λ tells. refl);
+  ends = λ yes. inl yes;
+  ends_within = λ yes. inl yes;
+  stands = rw append-nil (StandsFor-same reading.held);
+  no_more = omega arith;
+}
 
 -- takes one after another, where the first leave no whole line and do not end the input
 TakesOn-more : (old mid new : Reading) (before between after : Supply) → TakesOn old mid before between → TakesOn mid new between after → has_line_feed mid.held ≡ false → mid.ended ≡ false → TakesOn old new before after
@@ -116,6 +164,7 @@ TakesOn-more old mid new before between after first second none not_ended = reco
   asks = λ yes.
       let none_old = (or_parts (has_line_feed old.held) (has_line_feed first.taken) (sym (has_line_feed-append old.held first.taken) ∙ first.stands.feeds ∙ none)).0 in
       absurd (false≢true (sym none_old ∙ yes));
+  in_turn = λ tells. TakesInTurn-more old.held first.taken mid.held second.taken before between after first.stands first.in_turn (second.in_turn tells) (second.told tells);
   asks_no_more = λ yes. absurd (false≢true (sym not_ended ∙ (first.asks_no_more yes).1));
   ends = λ yes. ⊎_elim (λ was. absurd (false≢true (sym not_ended ∙ was))) inr (second.ends yes);
   ends_within = λ yes. ⊎_elim (λ was. absurd (false≢true (sym not_ended ∙ was))) inr (second.ends_within yes);
@@ -124,7 +173,6 @@ TakesOn-more old mid new before between after first second none not_ended = reco
       (StandsFor-trans (old.held ++ first.taken ++ second.taken) (mid.held ++ second.taken) new.held
       (StandsFor-append (old.held ++ first.taken) mid.held second.taken first.stands) second.stands);
   no_more = omega (arith, first.no_more, second.no_more);
-  faults = omega (arith, first.faults, second.faults);
 }
 
 -- the same where the search between them left the reader as it was
@@ -140,20 +188,23 @@ GoesOn-from took.TooLong old mid new less goes = omega arith
 GoesOn-from took.End old mid new less goes = tt
 
 -- takes, and then a line out of what is held
-pub Nexts-given : (given : Took) (old mid new : Reading) (before after : Supply) → TakesOn old mid before after → GivesLine given mid new → Nexts (Ok given) old new before after
-Nexts-given given old mid new before after takes gives = record {
+pub Nexts-given : (given : Took) (old mid new : Reading) (before after : Supply) → TakesOn old mid before after → after.faults ≡ before.faults → GivesLine given mid new → Nexts (Ok given) old new before after
+Nexts-given given old mid new before after takes no_fault gives = record {
   taken = takes.taken;
   told = takes.told;
   input = takes.input;
   budget = omega (arith, takes.budget, gives.budget);
   asks = takes.asks;
-  asks_no_more = λ yes. ((takes.asks_no_more yes).0, gives.ended ∙ (takes.asks_no_more yes).1);
+  asks_in_turn = λ tells. AsksInTurn-from old.held takes.taken before after (takes.in_turn tells);
+  asks_no_more = λ yes.
+      let was = takes.asks_no_more yes in
+      (was.0, gives.ended ∙ was.1, was.2);
   ends = λ yes. takes.ends (sym gives.ended ∙ yes);
   ends_within = λ yes. rw gives.budget (takes.ends_within (sym gives.ended ∙ yes));
   outcome = Outcome-stands given (old.held ++ takes.taken) mid.held new takes.stands gives.outcome;
   goes_on = GoesOn-from given old mid new takes.no_more gives.goes_on;
-  faults = takes.faults;
-  cause = tt;
+  faults = omega (arith, no_fault);
+  cause = no_fault;
 }
 
 -- no whole line and no end: what is held stands for all
@@ -166,15 +217,6 @@ HoldsBack-stands bytes new stands not_ended none = record {
   every_ended = stands.every_ended;
 }
 
--- a count that rose since later rose since earlier
-Rose-earlier : (before between now most : ℕ) → before ≤ between → min (between + 1) most ≤ now → min (before + 1) most ≤ now
-Rose-earlier before between now most earlier rose = omega arith
-
--- why a later take did not come is why there is no line
-StopCause-earlier : (e : ReadStop) (new : Reading) (before between now : ℕ) → before ≤ between → StopCause e new between now → StopCause e new before now
-StopCause-earlier stop.Source new before between now earlier cause = (Rose-earlier before between now (2 ^ 64 - 1) earlier cause.0, cause.1)
-StopCause-earlier stop.Budget new before between now earlier cause = cause
-
 -- takes that stop
 Nexts-stopped : (e : ReadStop) (old new : Reading) (before after : Supply) → TakesOn old new before after → new.ended ≡ false → has_line_feed new.held ≡ false → StopCause e new before.faults after.faults → Nexts (Err e) old new before after
 Nexts-stopped stop.Source old new before after takes not_ended none cause = record {
@@ -183,13 +225,14 @@ Nexts-stopped stop.Source old new before after takes not_ended none cause = reco
   input = takes.input;
   budget = takes.budget;
   asks = takes.asks;
+  asks_in_turn = λ tells. AsksInTurn-from old.held takes.taken before after (takes.in_turn tells);
   asks_no_more = takes.asks_no_more;
   ends = takes.ends;
   ends_within = takes.ends_within;
-  outcome = (HoldsBack-stands (old.held ++ takes.taken) new takes.stands not_ended none, cause.1);
+  outcome = (HoldsBack-stands (old.held ++ takes.taken) new takes.stands not_ended none, cause.2);
   goes_on = tt;
-  faults = takes.faults;
-  cause = cause.0;
+  faults = cause.0;
+  cause = cause.1;
 }
 Nexts-stopped stop.Budget old new before after takes not_ended none cause = record {
   taken = takes.taken;
@@ -197,13 +240,14 @@ Nexts-stopped stop.Budget old new before after takes not_ended none cause = reco
   input = takes.input;
   budget = takes.budget;
   asks = takes.asks;
+  asks_in_turn = λ tells. AsksInTurn-from old.held takes.taken before after (takes.in_turn tells);
   asks_no_more = takes.asks_no_more;
   ends = takes.ends;
   ends_within = takes.ends_within;
-  outcome = (HoldsBack-stands (old.held ++ takes.taken) new takes.stands not_ended none, cause);
+  outcome = (HoldsBack-stands (old.held ++ takes.taken) new takes.stands not_ended none, cause.1);
   goes_on = tt;
-  faults = takes.faults;
-  cause = tt;
+  faults = omega (arith, cause.0);
+  cause = cause.0;
 }
 
 -- a line without line feed is given without one, and no longer than a line may be
@@ -277,8 +321,8 @@ GivesLine-rest took.TooLong size old new all some none over goes = record {
 }
 GivesLine-rest took.End size old new all some none over goes = absurd goes.given
 
--- the same where the last of them stops
-pub Nexts-stops : (e : ReadStop) (old mid held new : Reading) (before between after : Supply) → TakesOn old mid before between → NeedsMore mid held → TakesOn held new between after → (new.ended ≡ false) × (has_line_feed new.held ≡ false) × StopCause e new between.faults after.faults → Nexts (Err e) old new before after
-Nexts-stops e old mid held new before between after first more second stops =
+-- the same where the last of them stops, and those before it came with no fault
+pub Nexts-stops : (e : ReadStop) (old mid held new : Reading) (before between after : Supply) → TakesOn old mid before between → between.faults ≡ before.faults → NeedsMore mid held → TakesOn held new between after → (new.ended ≡ false) × (has_line_feed new.held ≡ false) × StopCause e new between.faults after.faults → Nexts (Err e) old new before after
+Nexts-stops e old mid held new before between after first no_fault more second stops =
     Nexts-stopped e old new before after (TakesOn-step old mid held new before between after first more second) stops.0 stops.1
-    (StopCause-earlier e new before.faults between.faults after.faults first.faults stops.2)
+    (subst (λ count. StopCause e new count after.faults) no_fault stops.2)

@@ -6,7 +6,7 @@ use Rattle.mt_script.specs.declared.reader.Took.{Took}
 use Rattle.mt_script.specs.declared.reader.Took.TheVariants as took
 use Rattle.mt_script.specs.declared.reader.ReadStop.{ReadStop}
 use Rattle.mt_script.specs.declared.reader.ReadStop.TheVariants as stop
-use Rattle.mt_script.specs.Reader.{Reading, Outcome, GoesOn}
+use Rattle.mt_script.specs.Reader.{Reading, Outcome, GoesOn, AsksForLine}
 
 -- where the held bytes and the last line stand in the buffer
 pub record IsPlaced (buffer : List ℕ) (from upto searched line_from line_upto : ℕ) : Type 0 where
@@ -72,6 +72,11 @@ pub record StandsFor (bytes held : List ℕ) : Type 0 where
   pub every : (rest : List ℕ) → every_line (bytes ++ rest) ≡ every_line (held ++ rest)
   pub every_ended : (rest : List ℕ) → every_line (ended_part (bytes ++ rest)) ≡ every_line (ended_part (held ++ rest))
 
+-- No take was made, and the source stands as before; or takes were made, and before the last of them no line
+-- had ended. So a further take may follow, or none.
+abbrev pub TakesInTurn : List ℕ → List ℕ → Supply → Supply → Type 0
+TakesInTurn held taken before after = ((taken ≡ []) × (after ≡ before)) ⊎ AsksForLine held taken after
+
 -- Bytes were taken, no line was given out, and what is held stands for the bytes.
 pub record TakesOn (old new : Reading) (before after : Supply) : Type 0 where
   pub taken : List ℕ
@@ -79,23 +84,23 @@ pub record TakesOn (old new : Reading) (before after : Supply) : Type 0 where
   pub input : IsTrue after.tells → before.left ≡ taken ++ after.left
   pub budget : new.budget + length taken ≡ old.budget
   pub asks : has_line_feed old.held ≡ true → taken ≡ []
-  pub asks_no_more : old.ended ≡ true → (taken ≡ []) × (new.ended ≡ true)
+  pub in_turn : IsTrue after.tells → TakesInTurn old.held taken before after
+  pub asks_no_more : old.ended ≡ true → (taken ≡ []) × (new.ended ≡ true) × (IsTrue after.tells → after.takes ≡ before.takes)
   pub ends : new.ended ≡ true → (old.ended ≡ true) ⊎ (IsTrue after.tells → after.left ≡ [])
   pub ends_within : new.ended ≡ true → (old.ended ≡ true) ⊎ (0 < new.budget)
   pub stands : StandsFor (old.held ++ taken) new.held
   pub no_more : new.budget + length new.held ≤ old.budget + length old.held
-  pub faults : before.faults ≤ after.faults
 
 -- how many takes may still come at most
 abbrev pub takes_left : Reading → ℕ
 takes_left reading = reading.budget + (if reading.ended then 0 else 1)
 
--- why a take did not come
+-- why a take did not come, and what it did to the count of faults
 abbrev pub StopCause : ReadStop → Reading → ℕ → ℕ → Type 0
-StopCause stop.Source new before now = Rose before now × (0 < new.budget)
-StopCause stop.Budget new before now = new.budget ≡ 0
+StopCause stop.Source new before now = (before ≤ now) × Rose before now × (0 < new.budget)
+StopCause stop.Budget new before now = (now ≡ before) × (new.budget ≡ 0)
 
--- a take came, or the input goes on and no whole line is held
+-- A take came, and with no fault; or the input goes on and no whole line is held.
 abbrev pub ComesOrStops : Result (Unit {0}) ReadStop → Reading → Reading → ℕ → ℕ → Type 0
-ComesOrStops (Ok _) old new before now = takes_left new < takes_left old
+ComesOrStops (Ok _) old new before now = (now ≡ before) × (takes_left new < takes_left old)
 ComesOrStops (Err e) old new before now = (new.ended ≡ false) × (has_line_feed new.held ≡ false) × StopCause e new before now

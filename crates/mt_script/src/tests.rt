@@ -6,12 +6,18 @@ use mt_tree::{Code, Reply, Who};
 use std::alloc::{AllocError, Global};
 use std::test::Fail;
 
-/// Gives a text in pieces of one size, and fails once, at the take with a given number.
+/// Gives a text in pieces of one size. It fails once, at the take with a given number, and wherever
+/// it is asked while a line that it gave whole was not read.
 #[derive(Drop)]
 struct Pieces<'a> {
     left: &'a [u8],
+    last: &'a [u8],
     size: usize,
     before_fault: u64,
+    lines_given: usize,
+    // The test counts them here.
+    lines_read: usize,
+    takes: u64,
     faults: u64,
 }
 
@@ -19,8 +25,12 @@ impl<'a> Pieces<'a> {
     fn new(text: &'a [u8], size: usize) -> Pieces<'a> {
         Pieces {
             left: text,
+            last: b"",
             size,
             before_fault: u64::MAX,
+            lines_given: 0,
+            lines_read: 0,
+            takes: 0,
             faults: 0,
         }
     }
@@ -29,28 +39,38 @@ impl<'a> Pieces<'a> {
 impl Source for Pieces<'_> {
     ghost use Rattle.std.specs.Prelude.{true};
 
-    ghost supply = { λ pieces. record { tells = true; left = pieces.left.now; faults = pieces.faults } };
+    ghost supply = { λ pieces. record { tells = true; left = pieces.left.now; last = pieces.last.now; takes = pieces.takes; faults = pieces.faults } };
 
     fn take(&mut self, buf: &mut [u8]) -> Result<usize, Failed> {
-        if self.before_fault == 0 {
-            self.before_fault = u64::MAX;
+        self.takes = self.takes.saturating_add(1);
+        let now = self.before_fault == 0;
+        self.before_fault = if now { u64::MAX } else { self.before_fault - 1 };
+        if now || self.lines_read < self.lines_given {
+            self.last = b"";
             self.faults = self.faults.saturating_add(1);
             return Err(Failed);
         }
-        self.before_fault -= 1;
         let count = self.size.max(1).min(buf.len()).min(self.left.len());
-        buf[..count].copy_from_slice(&self.left[..count]);
+        self.last = &self.left[..count];
+        buf[..count].copy_from_slice(self.last);
         self.left = &self.left[count..];
+        let ends = self.last.iter().filter(|byte| **byte == b'\n').count();
+        self.lines_given = self.lines_given.saturating_add(ends);
         Ok(count)
     }
 }
 
 /// Each answer of a reader until the end or a spent budget: a line as it is, and `|` behind each.
+/// The source knows how many lines were read.
 fn answers(alloc: Global, budget: u64, source: &mut Pieces) -> Result<Vec<u8>, AllocError> {
     let mut reader = LineReader::new(alloc, budget)?;
     let mut told = Vec::new(alloc);
     for _ in 0..100 {
-        match reader.next(source) {
+        let took = reader.next(source);
+        if took.is_ok() {
+            source.lines_read = source.lines_read.saturating_add(1);
+        }
+        match took {
             Ok(Took::Line) => told.extend_from_slice(reader.line())?,
             Ok(Took::TooLong) => told.extend_from_slice(b"TOO LONG")?,
             Ok(Took::End) => break,
@@ -137,6 +157,21 @@ fn loses_nothing_by_a_fault(rt: HostRuntime) -> Result<(), Fail> {
             wanted.as_bytes(),
             "a fault at take {before_fault}"
         );
+    }
+    Ok(())
+}
+
+#[test]
+fn asks_only_while_no_whole_line_is_held(rt: HostRuntime) -> Result<(), Fail> {
+    for size in [1, 2, 3, 6] {
+        let mut source = Pieces::new(b"ab\ncd\n", size);
+        let told = answers(rt.alloc(), 1_000, &mut source)?;
+        assert_eq!(rt;
+            told.as_slice(),
+            b"ab|cd|".as_slice(),
+            "in pieces of {size}"
+        );
+        assert_eq!(rt; source.faults, 0, "in pieces of {size}");
     }
     Ok(())
 }
