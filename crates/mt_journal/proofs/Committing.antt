@@ -236,6 +236,11 @@ module _ (tail : ℕ) (ranges : List Range) (old written : Meaning) (n : ℕ) (s
             subst (λ (n : ℕ). IsChain (new.content Log) (groups ++ ranges ∷ []) n) (sym tail_is)
             (subst (λ (log : Area). IsChain log (groups ++ ranges ∷ []) (tail + 9 + payload_size ranges)) (sym (places.log t)) here)
 
+        new_payload : IsTrue new.tells → StandAt (new.content Log) (tail + 9) (spelling_of ranges)
+        new_payload t k h =
+            let at_open = quiet.told t in
+            ap (λ (log : Area). log (tail + 9 + k)) (places.log t) ∙ (opens.content at_open).after (tail + 9 + k) (omega arith) ∙ (behind (opens.leaves.told at_open)).payload_stands k h
+
         pub commit_commits : Committed ranges tail new_tail old new
         commit_commits = record {
           tail_is = tail_is;
@@ -254,5 +259,6 @@ module _ (tail : ℕ) (ranges : List Range) (old written : Meaning) (n : ℕ) (s
                 subst (λ (p : Area). Replays image p) (sym (new_pages told.1)) (placed_replays told.0 at_open chain.0 chain.1 image same);
           };
           pages = new_pages;
+          payload = new_payload;
           chain = new_chain;
         }

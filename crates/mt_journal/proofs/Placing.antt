@@ -11,7 +11,7 @@ use Rattle.mt_journal.specs.Steps.{IsQuiet, Changes, IsCopied, AllAmong, SameRep
 use Rattle.mt_journal.specs.Walk.{ToldRange}
 use Rattle.mt_journal.proofs.Chains.{range_unique}
 use Rattle.mt_machine.specs.LeavesLaws.{leaves_then, leaves_weaker}
-use Rattle.mt_journal.proofs.Replaying.{same_torn, with_range_written, with_ranges-append, among_left, among_right}
+use Rattle.mt_journal.proofs.Replaying.{same_torn, with_range_written, with_ranges_torn, with_ranges-append, among_left, among_right}
 
 -- what leaves disks of some property puts nothing out
 pub quiet_leaves : (has : Disk → Type 0) (old new : Meaning) → Leaves has old new → IsQuiet old new
@@ -24,6 +24,7 @@ quiet_join first second third one two = leaves_then one two (λ _ _ _. tt)
 pub places_looks : (ranges : List Range) (old new : Meaning) → Looks old new → Places ranges old new
 places_looks ranges old new looks = record {
   log = λ t. ap (λ (d : Disk). d Log) (looks.content t);
+  pages = λ t all among. ap (λ (d : Disk). with_ranges all (d Pages)) (looks.content t);
   leaves = λ all start among same. leaves_weaker (SameReplay all start) looks.leaves (λ t image arises. same (looks.leaves.told_moments t).0 image arises);
 }
 
@@ -31,6 +32,7 @@ places_looks ranges old new looks = record {
 pub places_untold : (ranges : List Range) (old new : Meaning) → IsQuiet old new → (IsTrue new.tells → ⊥) → Places ranges old new
 places_untold ranges old new quiet untold = record {
   log = λ t. absurd (untold t);
+  pages = λ t. absurd (untold t);
   leaves = λ all start among same. leaves_weaker (SameReplay all start) quiet (λ t image _. absurd (untold (quiet.told_moments t).1));
 }
 
@@ -38,6 +40,7 @@ places_untold ranges old new quiet untold = record {
 pub places_more : (few many : List Range) (old new : Meaning) → AllAmong few many → Places few old new → Places many old new
 places_more few many old new part places = record {
   log = places.log;
+  pages = λ t all among. places.pages t all (λ range here. among range (part range here));
   leaves = λ all start among same. places.leaves all start (λ range here. among range (part range here)) same;
 }
 
@@ -45,6 +48,7 @@ places_more few many old new part places = record {
 pub places_join : (one two : List Range) (first second third : Meaning) → IsQuiet second third → Places one first second → Places two second third → Places (one ++ two) first third
 places_join one two first second third quiet earlier later = record {
   log = λ t. later.log t ∙ earlier.log (quiet.told t);
+  pages = λ t all among. later.pages t all (λ range here. among range (among_right range one two here)) ∙ earlier.pages (quiet.told t) all (λ range here. among range (among_left range one two here));
   leaves = λ all start among same.
       let before = earlier.leaves all start (λ range here. among range (among_left range one two here)) same in
       let behind = later.leaves all start (λ range here. among range (among_right range one two here)) before.now in
@@ -71,6 +75,10 @@ pub places_changes : (range : Range) (at n : ℕ) (old new : Meaning) → (IsTru
     → Places (range ∷ []) old new
 places_changes range at n old new within changes = record {
   log = λ t. (changes.content t).other Log (λ e. cc);
+  pages = λ t all among.
+      let place = within (changes.leaves.told t) in
+      let torn = changes.content t in
+      with_ranges_torn all range (old.content Pages) (new.content Pages) at n (among range (inl refl)) place.0 place.1 torn.before torn.after;
   leaves = λ all start among same. leaves_weaker (SameReplay all start) changes.leaves
       (λ t image torn.
       let told = changes.leaves.told_moments t in

@@ -1,5 +1,5 @@
 -- A payload that spells ranges reads back as them.
-use Rattle.std.proofs.Common.{◌≡◌, ℕ, ◌+◌, ◌<◌, ◌≤◌, List, [], ◌∷◌, ◌++◌, length, get_or, take, drop, refl, sym, ap, ◌∙◌, subst, arith, append_assoc, length-append}
+use Rattle.std.proofs.Common.{◌≡◌, ℕ, ◌+◌, ◌-◌, ◌^◌, ◌<◌, ◌≤◌, List, [], ◌∷◌, ◌++◌, length, get_or, take, drop, refl, sym, ap, ◌∙◌, subst, arith, append_assoc, length-append}
 use Rattle.std.specs.Prelude.{All, flat_map, sum_by, slice_get, option_map, Some}
 use Rattle.std.proofs.lemmas.List.Sums.{sum_by-cons}
 use Rattle.std.proofs.lemmas.Option.{slice_get-map, slice_get-get_or}
@@ -116,14 +116,15 @@ spelled_back ranges fit =
     let size = length-bytes_low_first 0 4 (length ranges) in
     ap (λ (n : ℕ). ranges_of (spelling_of ranges) (starts_from n ranges)) (sym size) ∙ ranges_back (little_bytes 4 (length ranges)) ranges fit
 
-pub is_spelled : (payload starts : List ℕ) (ranges : List Range) → payload ≡ spelling_of ranges → starts ≡ starts_from 4 ranges → All Fits ranges
+pub is_spelled : (payload starts : List ℕ) (ranges : List Range) → payload ≡ spelling_of ranges → starts ≡ starts_from 4 ranges → All Fits ranges → length ranges < 2 ^ 32
     → IsSpelled payload starts × (ranges_of payload starts ≡ ranges)
-is_spelled payload starts ranges payload_is starts_are fit =
+is_spelled payload starts ranges payload_is starts_are fit few =
     let same : ranges_of payload starts ≡ ranges = ap (λ (p : List ℕ). ranges_of p starts) payload_is ∙ ap (ranges_of (spelling_of ranges)) starts_are ∙ spelled_back ranges fit in (
       record {
         payload_is = payload_is ∙ ap spelling_of (sym same);
         starts_are = starts_are ∙ ap (starts_from 4) (sym same);
         fit = subst (λ (r : List Range). All Fits r) (sym same) fit;
+        few = subst (λ (r : List Range). length r < 2 ^ 32) (sym same) few;
       },
       same,
     )
@@ -149,10 +150,10 @@ spellings_push [] range = append-nil (spelling_of_range range)
 spellings_push (first ∷ ranges) range =
     ap (λ (l : List ℕ). spelling_of_range first ++ l) (spellings_push ranges range) ∙ sym (append_assoc (spelling_of_range first) (flat_map spelling_of_range ranges) (spelling_of_range range))
 
-pub push_spelled : (payload starts new_payload new_starts : List ℕ) (range : Range) → IsSpelled payload starts → Fits range
+pub push_spelled : (payload starts new_payload new_starts : List ℕ) (range : Range) → IsSpelled payload starts → Fits range → length (ranges_of payload starts) < 2 ^ 32 - 1
     → new_payload ≡ little_bytes 4 (length starts + 1) ++ drop 4 (payload ++ spelling_of_range range) → new_starts ≡ starts ++ length payload ∷ []
     → IsSpelled new_payload new_starts × (ranges_of new_payload new_starts ≡ ranges_of payload starts ++ range ∷ [])
-push_spelled payload starts new_payload new_starts range spelled fits new_is new_are =
+push_spelled payload starts new_payload new_starts range spelled fits room new_is new_are =
     let ranges = ranges_of payload starts in
     let count : length (ranges ++ range ∷ []) ≡ length starts + 1 = omega (arith, length-append ranges (range ∷ []), length-map starts (range_from payload)) in
     let size = length-bytes_low_first 0 4 (length ranges) in
@@ -166,7 +167,7 @@ push_spelled payload starts new_payload new_starts range spelled fits new_is new
     let last : length payload ≡ 4 + sum_by range_size ranges = ap length spelled.payload_is ∙ length-spelling_of ranges in
     let starts_are : new_starts ≡ starts_from 4 (ranges ++ range ∷ []) =
     new_are ∙ ap (λ (n : ℕ). starts ++ n ∷ []) last ∙ ap (λ (l : List ℕ). l ++ (4 + sum_by range_size ranges) ∷ []) spelled.starts_are ∙ sym (starts_push 4 ranges range) in
-    is_spelled new_payload new_starts (ranges ++ range ∷ []) payload_is starts_are (All-push Fits ranges range spelled.fit fits)
+    is_spelled new_payload new_starts (ranges ++ range ∷ []) payload_is starts_are (All-push Fits ranges range spelled.fit fits) (omega (arith, room, length-append ranges (range ∷ [])))
 
 -- the range at an index, as it is read from its start
 module _ (payload starts : List ℕ) (ranges : List Range) (i : ℕ) (bytes : List ℕ) (start : ℕ) (view : ranges_of payload starts ≡ ranges) (same : bytes ≡ payload)

@@ -4,5 +4,6 @@ pub mod Groups
 pub mod Layout
 pub mod Replay
 pub mod Spelling
+pub mod StandsLaws
 pub mod Steps
 pub mod Walk

@@ -33,8 +33,9 @@ HasRange payload start = start + 12 + little_number 4 (drop (start + 8) payload)
 abbrev pub ranges_of : List ℕ → List ℕ → List Range
 ranges_of payload starts = map (range_from payload) starts
 
--- the payload spells its ranges, and each starts where it is said to
+-- the payload spells its ranges, each starts where it is said to, and four bytes hold how many there are
 pub record IsSpelled (payload starts : List ℕ) : Type 0 where
   pub payload_is : payload ≡ spelling_of (ranges_of payload starts)
   pub starts_are : starts ≡ starts_from 4 (ranges_of payload starts)
   pub fit : All Fits (ranges_of payload starts)
+  pub few : length (ranges_of payload starts) < 2 ^ 32

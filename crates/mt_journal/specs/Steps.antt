@@ -58,6 +58,7 @@ pub record SameReplay (all : List Range) (start image : Disk) : Type 0 where
 -- the same once all ranges are written again.
 pub record Places (ranges : List Range) (old new : Meaning) : Type 0 where
   pub log : IsTrue new.tells → new.content Log ≡ old.content Log
+  pub pages : IsTrue new.tells → (all : List Range) → AllAmong ranges all → with_ranges all (new.content Pages) ≡ with_ranges all (old.content Pages)
   pub leaves : (all : List Range) (start : Disk) → AllAmong ranges all
       → (IsTrue old.tells_moments → (image : Disk) → old.images image → SameReplay all start image) → Leaves (SameReplay all start) old new
 

@@ -33,6 +33,7 @@ impl Model for Body {
 
 impl Body {
     ghost use Rattle.mt_journal.specs.Layout.{Range};
+    ghost use Rattle.mt_journal.specs.Commits.{payload_size};
 
     /// A body of no ranges. `AllocError` is want of memory.
     pub fn new(alloc: Global) -> Result<Body, AllocError>
@@ -68,6 +69,13 @@ impl Body {
         self.starts.len()
     }
 
+    /// How many bytes the ranges take in the log: those of the payload of their group.
+    pub fn size(&self) -> usize
+        ensures { result ≡ payload_size self.now }
+    {
+        self.payload.len()
+    }
+
     /// The position in the pages of range `i`, counted from 0.
     pub fn position(&self, i: usize) -> u64
         requires { i < length self.now }
@@ -90,6 +98,7 @@ impl Body {
     pub(crate) fn payload(&self) -> &[u8]
         ensures spells { result.now ≡ spelling_of self.now }
         ensures fit { All Fits self.now }
+        ensures few { length self.now < 2 ^ 32 }
     {
         self.payload.as_slice()
     }

@@ -1,10 +1,10 @@
 ghost use Rattle.std.specs.Prelude.{◌≡◌, ◌⊎◌, ℕ, ◌+◌, ◌<◌, ◌≤◌, ◌^◌, List, IsTrue, IsErr, IfOk, IfSome, IsErrOf, length};
-ghost use Rattle.mt_machine.specs.Meaning.{Rose};
+ghost use Rattle.mt_machine.specs.Calls.{HasCause};
 ghost use Rattle.mt_machine.specs.Leaves.{Looks};
 ghost use Rattle.mt_machine.specs.declared.machine.Area.TheVariants.{Log};
 ghost use Rattle.mt_journal.specs.Layout.{Range, IsOpen, IsGroupAt, IsRangeAt, number_at};
+ghost use Rattle.mt_journal.specs.Commits.{DiskCause};
 ghost use Rattle.mt_journal.specs.Groups.{FindsGroup, FindsRange};
-ghost use Rattle.mt_journal.specs.Steps.{TellsBoth};
 ghost use Rattle.mt_journal.specs.Walk.{IsHead, FindsPayload, FindsWithin, FillsPayload};
 
 use crate::RecoverFault;
@@ -51,7 +51,7 @@ pub fn next_group<M: Machine>(m: &mut M, at: u64) -> Result<Option<GroupAt>, Rec
     // whatever the machine tells
     ensures bounds { IfOk result (λ found. IfSome found (λ group. (group.at ≡ at + 9) × (4 ≤ group.length) × (group.at + group.length < 2 ^ 42))) }
     ensures looks { Looks (M.meaning m.old) (M.meaning m.new) }
-    ensures disk { IsErrOf result RecoverFault.Disk → Rose (M.meaning m.old).disk_faults (M.meaning m.new).disk_faults }
+    ensures cause { DiskCause result (M.meaning m.old).disk_faults (M.meaning m.new).disk_faults }
     ensures beneath { M.beneath m.old m.new }
 {
     let gate = byte_at(m, at)?;
@@ -69,8 +69,10 @@ pub fn next_range<M: Machine>(m: &mut M, at: u64) -> Result<RangeAt, Failed>
     requires place { at + 12 ≤ 2 ^ 42 }
     requires range { IsTrue (M.meaning m.old).tells → (range : Range) × IsRangeAt ((M.meaning m.old).content Log) at range × (at + 12 + length range.bytes < 2 ^ 42) }
     ensures found { FindsRange result at (M.meaning m.old) (M.meaning m.new) }
+    // whatever the machine tells
+    ensures bounds { IfOk result (λ range. (range.bytes_at ≡ at + 12) × (range.next ≡ at + 12 + range.length)) }
     ensures looks { Looks (M.meaning m.old) (M.meaning m.new) }
-    ensures disk { IsErr result → Rose (M.meaning m.old).disk_faults (M.meaning m.new).disk_faults }
+    ensures cause { HasCause (M.meaning m.old).disk_faults (M.meaning m.new).disk_faults result }
     ensures beneath { M.beneath m.old m.new }
 {
     head_at(m, at)
@@ -78,12 +80,11 @@ pub fn next_range<M: Machine>(m: &mut M, at: u64) -> Result<RangeAt, Failed>
 
 // The payload behind the open gate at this place; None exactly where no group stands there.
 fn payload_behind<M: Machine>(m: &mut M, at: u64) -> Result<Option<GroupAt>, Failed>
-    requires told { TellsBoth (M.meaning m.old) }
-    requires within { at < 2 ^ 42 }
+    requires { at < 2 ^ 42 }
     ensures found { FindsPayload result at (M.meaning m.old) (M.meaning m.new) }
     ensures bounds { IfOk result (λ found. IfSome found (λ group. (group.at ≡ at + 9) × (4 ≤ group.length) × (group.at + group.length < 2 ^ 42))) }
     ensures looks { Looks (M.meaning m.old) (M.meaning m.new) }
-    ensures disk { IsErr result → Rose (M.meaning m.old).disk_faults (M.meaning m.new).disk_faults }
+    ensures cause { HasCause (M.meaning m.old).disk_faults (M.meaning m.new).disk_faults result }
     ensures beneath { M.beneath m.old m.new }
 {
     // the shortest group takes 13 bytes, and the next gate stands behind it
@@ -105,12 +106,11 @@ fn payload_behind<M: Machine>(m: &mut M, at: u64) -> Result<Option<GroupAt>, Fai
 
 // Whether just this many ranges stand from one place to another.
 fn ranges_fill<M: Machine>(m: &mut M, at: u64, end: u64, count: u32) -> Result<bool, Failed>
-    requires told { TellsBoth (M.meaning m.old) }
     requires order { at ≤ end }
     requires within { end < 2 ^ 42 }
     ensures found { FillsPayload result at end count (M.meaning m.old) (M.meaning m.new) }
     ensures looks { Looks (M.meaning m.old) (M.meaning m.new) }
-    ensures disk { IsErr result → Rose (M.meaning m.old).disk_faults (M.meaning m.new).disk_faults }
+    ensures cause { HasCause (M.meaning m.old).disk_faults (M.meaning m.new).disk_faults result }
     ensures beneath { M.beneath m.old m.new }
 {
     let mut place = at;
@@ -130,13 +130,12 @@ pub(crate) fn range_within<M: Machine>(
     at: u64,
     end: u64,
 ) -> Result<Option<RangeAt>, Failed>
-    requires told { TellsBoth (M.meaning m.old) }
     requires order { at ≤ end }
     requires within { end < 2 ^ 42 }
     ensures found { FindsWithin result at end (M.meaning m.old) (M.meaning m.new) }
     ensures bounds { IfOk result (λ found. IfSome found (λ range. (range.bytes_at ≡ at + 12) × (range.next ≡ at + 12 + range.length) × (range.next ≤ end) × (range.position + range.length ≤ 2 ^ 40))) }
     ensures looks { Looks (M.meaning m.old) (M.meaning m.new) }
-    ensures disk { IsErr result → Rose (M.meaning m.old).disk_faults (M.meaning m.new).disk_faults }
+    ensures cause { HasCause (M.meaning m.old).disk_faults (M.meaning m.new).disk_faults result }
     ensures beneath { M.beneath m.old m.new }
 {
     if end - at < HEAD_SIZE {
@@ -158,7 +157,7 @@ fn head_at<M: Machine>(m: &mut M, at: u64) -> Result<RangeAt, Failed>
     ensures found { IfOk result (λ range. IsTrue (M.meaning m.new).tells → IsHead ((M.meaning m.old).content Log) at range) }
     ensures bounds { IfOk result (λ range. (range.bytes_at ≡ at + 12) × (range.next ≡ at + 12 + range.length)) }
     ensures looks { Looks (M.meaning m.old) (M.meaning m.new) }
-    ensures disk { IsErr result → Rose (M.meaning m.old).disk_faults (M.meaning m.new).disk_faults }
+    ensures cause { HasCause (M.meaning m.old).disk_faults (M.meaning m.new).disk_faults result }
     ensures beneath { M.beneath m.old m.new }
 {
     let position = u64_at(m, at)?;
@@ -178,7 +177,7 @@ fn byte_at<M: Machine>(m: &mut M, at: u64) -> Result<u8, Failed>
     requires { at + 1 ≤ 2 ^ 42 }
     ensures found { IfOk result (λ byte. IsTrue (M.meaning m.new).tells → (M.meaning m.old).content Log at ≡ byte) }
     ensures looks { Looks (M.meaning m.old) (M.meaning m.new) }
-    ensures disk { IsErr result → Rose (M.meaning m.old).disk_faults (M.meaning m.new).disk_faults }
+    ensures cause { HasCause (M.meaning m.old).disk_faults (M.meaning m.new).disk_faults result }
     ensures beneath { M.beneath m.old m.new }
 {
     let mut buffer = [0; 1];
@@ -191,7 +190,7 @@ fn u32_at<M: Machine>(m: &mut M, at: u64) -> Result<u32, Failed>
     requires { at + 4 ≤ 2 ^ 42 }
     ensures found { IfOk result (λ number. IsTrue (M.meaning m.new).tells → number_at 4 ((M.meaning m.old).content Log) at ≡ number) }
     ensures looks { Looks (M.meaning m.old) (M.meaning m.new) }
-    ensures disk { IsErr result → Rose (M.meaning m.old).disk_faults (M.meaning m.new).disk_faults }
+    ensures cause { HasCause (M.meaning m.old).disk_faults (M.meaning m.new).disk_faults result }
     ensures beneath { M.beneath m.old m.new }
 {
     let mut buffer = [0; 4];
@@ -204,7 +203,7 @@ fn u64_at<M: Machine>(m: &mut M, at: u64) -> Result<u64, Failed>
     requires { at + 8 ≤ 2 ^ 42 }
     ensures found { IfOk result (λ number. IsTrue (M.meaning m.new).tells → number_at 8 ((M.meaning m.old).content Log) at ≡ number) }
     ensures looks { Looks (M.meaning m.old) (M.meaning m.new) }
-    ensures disk { IsErr result → Rose (M.meaning m.old).disk_faults (M.meaning m.new).disk_faults }
+    ensures cause { HasCause (M.meaning m.old).disk_faults (M.meaning m.new).disk_faults result }
     ensures beneath { M.beneath m.old m.new }
 {
     let mut buffer = [0; 8];

@@ -1,10 +1,11 @@
 ghost use Rattle.std.specs.Prelude.{◌≡◌, ◌⊎◌, ℕ, ◌<◌, ◌≤◌, ◌^◌, ◌↔◌, List, IsTrue, IsErr, IfOk, OnOk, IsErrOf, length};
-ghost use Rattle.mt_machine.specs.Meaning.{Disk, Rose};
+ghost use Rattle.mt_machine.specs.Meaning.{Disk};
+ghost use Rattle.mt_machine.specs.Calls.{HasCause};
 ghost use Rattle.mt_machine.specs.Leaves.{Leaves, Looks};
 ghost use Rattle.mt_machine.specs.declared.machine.Area.TheVariants.{Log, Pages};
 ghost use Rattle.mt_journal.specs.Chain.{IsDamaged};
 ghost use Rattle.mt_journal.specs.Replay.{Replays, with_ranges};
-ghost use Rattle.mt_journal.specs.Commits.{StandsFor, ReplaysTo, ReplaysToEither, Committed, Emptied, Recovered, OldOrReplays, payload_size};
+ghost use Rattle.mt_journal.specs.Commits.{DiskCause, KeepsReplay, StandsFor, ReplaysTo, ReplaysToEither, Committed, Emptied, Recovered, OldOrReplays, payload_size};
 
 use crate::Body;
 use crate::group::OPEN;
@@ -23,7 +24,8 @@ pub enum RecoverFault {
     /// A call on the disk failed.
     #[error("disk fault")]
     Disk,
-    /// The chain of open groups does not decode. Nothing was written.
+    /// The chain of open groups does not decode. Nothing was written, if the machine tells its
+    /// content.
     #[error("damaged log")]
     Damaged,
 }
@@ -44,15 +46,18 @@ impl Model for Journal {
 
 impl Journal {
     /// Syncs, looks through the whole chain of open groups, writes its ranges in place, and empties
-    /// the log where it had a group. After `Damaged` nothing was written. It takes no memory.
+    /// the log where it had a group. After `Damaged` nothing was written, if the machine tells its
+    /// content; after `Disk` the disk replays to what it did. It takes no memory.
     pub fn recover<M: Machine>(m: &mut M) -> Result<Journal, RecoverFault>
         ensures ok { IfOk result (λ journal. (journal ≡ 0) × Recovered (M.meaning m.old) (M.meaning m.new)) }
-        // At each moment the disk is one that a stop before the call could leave, or it replays as
-        // the disk did that was read at first.
+        // At each moment the disk is one that a stop before the call could leave, or it replays to
+        // what the disk replayed to that was read at first.
         ensures any_moment { Leaves (OldOrReplays (M.meaning m.old)) (M.meaning m.old) (M.meaning m.new) }
+        // whatever it answers
+        ensures content { IsTrue (M.meaning m.new).tells → KeepsReplay (M.meaning m.old).content (M.meaning m.new).content }
         ensures damaged { IsErrOf result RecoverFault.Damaged → Looks (M.meaning m.old) (M.meaning m.new)
             × (IsTrue (M.meaning m.new).tells → IsDamaged ((M.meaning m.old).content Log)) }
-        ensures disk { IsErrOf result RecoverFault.Disk → Rose (M.meaning m.old).disk_faults (M.meaning m.new).disk_faults }
+        ensures cause { DiskCause result (M.meaning m.old).disk_faults (M.meaning m.new).disk_faults }
         ensures beneath { M.beneath m.old m.new }
     {
         m.sync()?;
@@ -63,6 +68,13 @@ impl Journal {
         replay(m, end)?;
         close_first(m)?;
         Ok(Journal { tail: 0 })
+    }
+
+    /// Where the next group goes in the log.
+    pub fn tail(&self) -> u64
+        ensures { result ≡ self.now }
+    {
+        self.tail
     }
 
     /// Whether the log is so long that it is to be emptied before the next commit.
@@ -79,10 +91,9 @@ impl Journal {
         requires stands { StandsFor self.old (M.meaning m.old) }
         requires short { self.old ≤ 1048576 }
         requires size { payload_size body.now ≤ 2 ^ 41 }
-        requires count { length body.now < 2 ^ 32 }
         ensures ok { OnOk result (Committed body.now self.old self.new (M.meaning m.old) (M.meaning m.new)) }
         ensures any_moment { Leaves (ReplaysToEither ((M.meaning m.old).content Pages) (with_ranges body.now ((M.meaning m.old).content Pages))) (M.meaning m.old) (M.meaning m.new) }
-        ensures failed { IsErr result → Rose (M.meaning m.old).disk_faults (M.meaning m.new).disk_faults }
+        ensures cause { HasCause (M.meaning m.old).disk_faults (M.meaning m.new).disk_faults result }
         ensures beneath { M.beneath m.old m.new }
     {
         let payload = body.payload();
@@ -100,7 +111,7 @@ impl Journal {
         requires { StandsFor self.old (M.meaning m.old) }
         ensures ok { OnOk result ((self.new ≡ 0) × Emptied (M.meaning m.old) (M.meaning m.new)) }
         ensures any_moment { Leaves (ReplaysTo ((M.meaning m.old).content Pages)) (M.meaning m.old) (M.meaning m.new) }
-        ensures failed { IsErr result → Rose (M.meaning m.old).disk_faults (M.meaning m.new).disk_faults }
+        ensures cause { HasCause (M.meaning m.old).disk_faults (M.meaning m.new).disk_faults result }
         ensures beneath { M.beneath m.old m.new }
     {
         // With no group in the log its first gate is not written: a stop could leave it open.

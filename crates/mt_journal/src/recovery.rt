@@ -1,10 +1,11 @@
 ghost use Rattle.std.specs.Prelude.{◌≡◌, ◌⊎◌, ℕ, ◌+◌, ◌<◌, ◌≤◌, ◌^◌, List, [], ◌∷◌, IsTrue, IsErr, IsErrOf, IfOk, OnOk, length};
-ghost use Rattle.mt_machine.specs.Meaning.{Rose};
+ghost use Rattle.mt_machine.specs.Calls.{HasCause};
 ghost use Rattle.mt_machine.specs.Leaves.{Looks};
 ghost use Rattle.mt_machine.specs.declared.machine.Area.TheVariants.{Log, Pages};
 ghost use Rattle.mt_journal.specs.Layout.{Range};
 ghost use Rattle.mt_journal.specs.Replay.{all_ranges};
-ghost use Rattle.mt_journal.specs.Steps.{TellsBoth, IsQuiet, Changes, IsCopied, Places, ArePlaced};
+ghost use Rattle.mt_journal.specs.Commits.{DiskCause};
+ghost use Rattle.mt_journal.specs.Steps.{IsQuiet, Changes, IsCopied, Places, ArePlaced};
 ghost use Rattle.mt_journal.specs.Walk.{FindsChain, ToldChain, ToldGroup, ToldRanges, ToldRange};
 
 use crate::RecoverFault;
@@ -16,11 +17,10 @@ const PIECE: usize = 4096;
 
 // Walks the whole chain of open groups, and answers where it ends. Nothing is written.
 pub(crate) fn chain_end<M: Machine>(m: &mut M) -> Result<u64, RecoverFault>
-    requires { TellsBoth (M.meaning m.old) }
     ensures found { FindsChain result (M.meaning m.old) (M.meaning m.new) }
     ensures bounds { IfOk result (λ end. end < 2 ^ 42) }
     ensures looks { Looks (M.meaning m.old) (M.meaning m.new) }
-    ensures disk { IsErrOf result RecoverFault.Disk → Rose (M.meaning m.old).disk_faults (M.meaning m.new).disk_faults }
+    ensures cause { DiskCause result (M.meaning m.old).disk_faults (M.meaning m.new).disk_faults }
     ensures beneath { M.beneath m.old m.new }
 {
     let mut at = 0;
@@ -33,13 +33,12 @@ pub(crate) fn chain_end<M: Machine>(m: &mut M) -> Result<u64, RecoverFault>
 // Writes the ranges of the whole chain in their places. `Damaged` comes only where the log reads
 // otherwise than before, which a machine that tells its content rules out.
 pub(crate) fn replay<M: Machine>(m: &mut M, end: u64) -> Result<(), RecoverFault>
-    requires told { TellsBoth (M.meaning m.old) }
-    requires within { end < 2 ^ 42 }
+    requires { end < 2 ^ 42 }
     ensures quiet { IsQuiet (M.meaning m.old) (M.meaning m.new) }
     ensures places { (groups : List (List Range)) → ToldChain (M.meaning m.old) groups end → Places (all_ranges groups) (M.meaning m.old) (M.meaning m.new) }
     ensures placed { OnOk result ((groups : List (List Range)) → ToldChain (M.meaning m.old) groups end → ArePlaced (all_ranges groups) (M.meaning m.old) (M.meaning m.new)) }
     ensures damaged { IsErrOf result RecoverFault.Damaged → (groups : List (List Range)) → ToldChain (M.meaning m.old) groups end → IsTrue (M.meaning m.new).tells → ⊥ }
-    ensures disk { IsErrOf result RecoverFault.Disk → Rose (M.meaning m.old).disk_faults (M.meaning m.new).disk_faults }
+    ensures cause { DiskCause result (M.meaning m.old).disk_faults (M.meaning m.new).disk_faults }
     ensures beneath { M.beneath m.old m.new }
 {
     let mut at = 0;
@@ -58,7 +57,7 @@ fn replay_group<M: Machine>(m: &mut M, at: u64) -> Result<u64, RecoverFault>
     ensures next { IfOk result (λ next. (ranges : List Range) (end : ℕ) → ToldGroup (M.meaning m.old) at ranges end → IsTrue (M.meaning m.new).tells → next ≡ end) }
     ensures bounds { IfOk result (λ next. (at < next) × (next < 2 ^ 42)) }
     ensures damaged { IsErrOf result RecoverFault.Damaged → (ranges : List Range) (end : ℕ) → ToldGroup (M.meaning m.old) at ranges end → IsTrue (M.meaning m.new).tells → ⊥ }
-    ensures disk { IsErrOf result RecoverFault.Disk → Rose (M.meaning m.old).disk_faults (M.meaning m.new).disk_faults }
+    ensures cause { DiskCause result (M.meaning m.old).disk_faults (M.meaning m.new).disk_faults }
     ensures beneath { M.beneath m.old m.new }
 {
     let Some(group) = next_group(m, at)? else {
@@ -71,14 +70,13 @@ fn replay_group<M: Machine>(m: &mut M, at: u64) -> Result<u64, RecoverFault>
 
 // Writes the ranges from one place of the log to another in their places.
 fn replay_ranges<M: Machine>(m: &mut M, at: u64, end: u64) -> Result<(), RecoverFault>
-    requires told { TellsBoth (M.meaning m.old) }
     requires order { at ≤ end }
     requires within { end < 2 ^ 42 }
     ensures quiet { IsQuiet (M.meaning m.old) (M.meaning m.new) }
     ensures places { (ranges : List Range) → ToldRanges (M.meaning m.old) at ranges end → Places ranges (M.meaning m.old) (M.meaning m.new) }
     ensures placed { OnOk result ((ranges : List Range) → ToldRanges (M.meaning m.old) at ranges end → ArePlaced ranges (M.meaning m.old) (M.meaning m.new)) }
     ensures damaged { IsErrOf result RecoverFault.Damaged → (ranges : List Range) → ToldRanges (M.meaning m.old) at ranges end → IsTrue (M.meaning m.new).tells → ⊥ }
-    ensures disk { IsErrOf result RecoverFault.Disk → Rose (M.meaning m.old).disk_faults (M.meaning m.new).disk_faults }
+    ensures cause { DiskCause result (M.meaning m.old).disk_faults (M.meaning m.new).disk_faults }
     ensures beneath { M.beneath m.old m.new }
 {
     let mut place = at;
@@ -90,7 +88,6 @@ fn replay_ranges<M: Machine>(m: &mut M, at: u64, end: u64) -> Result<(), Recover
 
 // Writes one range in its place, and answers what is behind it in the log.
 fn replay_range<M: Machine>(m: &mut M, at: u64, end: u64) -> Result<u64, RecoverFault>
-    requires told { TellsBoth (M.meaning m.old) }
     requires order { at ≤ end }
     requires within { end < 2 ^ 42 }
     ensures quiet { IsQuiet (M.meaning m.old) (M.meaning m.new) }
@@ -99,7 +96,7 @@ fn replay_range<M: Machine>(m: &mut M, at: u64, end: u64) -> Result<u64, Recover
     ensures next { IfOk result (λ next. (range : Range) → ToldRange (M.meaning m.old) at range end → IsTrue (M.meaning m.new).tells → next ≡ at + 12 + length range.bytes) }
     ensures bounds { IfOk result (λ next. (at + 12 ≤ next) × (next ≤ end)) }
     ensures damaged { IsErrOf result RecoverFault.Damaged → (range : Range) → ToldRange (M.meaning m.old) at range end → IsTrue (M.meaning m.new).tells → ⊥ }
-    ensures disk { IsErrOf result RecoverFault.Disk → Rose (M.meaning m.old).disk_faults (M.meaning m.new).disk_faults }
+    ensures cause { DiskCause result (M.meaning m.old).disk_faults (M.meaning m.new).disk_faults }
     ensures beneath { M.beneath m.old m.new }
 {
     let Some(range) = range_within(m, at, end)? else {
@@ -111,12 +108,11 @@ fn replay_range<M: Machine>(m: &mut M, at: u64, end: u64) -> Result<u64, Recover
 
 // Copies bytes from the log to the pages, piece by piece.
 fn copy<M: Machine>(m: &mut M, from: u64, to: u64, count: u64) -> Result<(), Failed>
-    requires told { TellsBoth (M.meaning m.old) }
     requires source { from + count ≤ 2 ^ 42 }
     requires goal { to + count ≤ 2 ^ 42 }
     ensures changes { Changes Pages to count (M.meaning m.old) (M.meaning m.new) }
     ensures copied { OnOk result (IsTrue (M.meaning m.new).tells → IsCopied from to count (M.meaning m.old).content (M.meaning m.new).content) }
-    ensures failed { IsErr result → Rose (M.meaning m.old).disk_faults (M.meaning m.new).disk_faults }
+    ensures cause { HasCause (M.meaning m.old).disk_faults (M.meaning m.new).disk_faults result }
     ensures beneath { M.beneath m.old m.new }
 {
     let mut buffer = [0; PIECE];
@@ -135,7 +131,7 @@ fn copy_through<M: Machine>(m: &mut M, from: u64, to: u64, buffer: &mut [u8]) ->
     requires goal { to + length buffer.old ≤ 2 ^ 42 }
     ensures changes { Changes Pages to (length buffer.old) (M.meaning m.old) (M.meaning m.new) }
     ensures copied { OnOk result (IsTrue (M.meaning m.new).tells → IsCopied from to (length buffer.old) (M.meaning m.old).content (M.meaning m.new).content) }
-    ensures failed { IsErr result → Rose (M.meaning m.old).disk_faults (M.meaning m.new).disk_faults }
+    ensures cause { HasCause (M.meaning m.old).disk_faults (M.meaning m.new).disk_faults result }
     ensures beneath { M.beneath m.old m.new }
 {
     m.read(Area::Log, from, buffer)?;

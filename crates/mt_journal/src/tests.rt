@@ -2,7 +2,10 @@ ghost use Rattle.std.specs.Prelude.{◌≡◌, ◌+◌, ◌≤◌, ◌<◌, ◌^
 ghost use Rattle.mt_machine.specs.InMemory.{mem_meaning};
 ghost use Rattle.mt_journal.specs.Commits.{StandsFor};
 
-use crate::{Body, Journal, RangeAt, RecoverFault, chains_are_determined, next_group, next_range};
+use crate::{
+    Body, Journal, RangeAt, RecoverFault, chains_are_determined, next_group, next_range,
+    standing_is_kept,
+};
 use mt_list::List;
 use mt_machine::{
     Area, Bytes, CallKind, FailList, Failed, Fill, Machine, MemMachine, SteadyMachine, Stopped,
@@ -109,6 +112,7 @@ fn bodies_give_their_ranges(rt: HostRuntime) -> Result<(), Fail> {
     body.push(7, b"AB")?;
     body.push(1 << 39, b"")?;
     assert_eq!(rt; body.len(), 2);
+    assert_eq!(rt; body.size(), 30);
     assert_eq!(rt; body.position(1), 1 << 39);
     assert_eq!(rt; body.bytes(0), b"AB".as_slice());
     Ok(())
@@ -124,6 +128,7 @@ fn commits_lie_byte_for_byte(rt: HostRuntime) -> Result<(), Fail> {
     commit_range(alloc, &mut journal, &mut machine, 4096, b"C")?;
     assert_eq!(rt; machine.log(), LOG.as_slice());
     assert!(rt; !journal.needs_reset());
+    assert_eq!(rt; journal.tail(), 53);
     journal.reset(&mut machine)?;
     assert_eq!(rt; machine.log().first().copied(), Some(0));
     assert_eq!(rt; held(&mut machine)?, *b"ABC");
@@ -141,6 +146,7 @@ fn logs_are_replayed(rt: HostRuntime) -> Result<(), Fail> {
     assert_eq!(rt; machine.pages().len(), 4097);
     assert!(rt; next_group(&mut machine, 0)?.is_none());
     chains_are_determined();
+    standing_is_kept::<MemMachine>();
     Ok(())
 }
 

@@ -3,7 +3,7 @@
 //! of groups, at most 100,000; none stands for 1. It promises only what the journal does.
 #![tactic(auto)]
 
-ghost use Rattle.std.specs.Prelude.{◌≡◌, ◌^◌, ◌<◌, ◌≤◌, length, IfOk, OnOk};
+ghost use Rattle.std.specs.Prelude.{◌≡◌, ◌^◌, ◌≤◌, IfOk, OnOk};
 ghost use Rattle.mt_journal.specs.Commits.{StandsFor, payload_size};
 
 use mt_hostio::FolderMachine;
@@ -19,8 +19,7 @@ const GROUPS_MAX: u32 = 100_000;
 
 // A group of one range of 100 bytes at the front of the pages.
 fn small_body(alloc: Global) -> Result<Body, AllocError>
-    ensures size { IfOk result (λ body. payload_size body ≤ 2 ^ 41) }
-    ensures count { IfOk result (λ body. length body < 2 ^ 32) }
+    ensures { IfOk result (λ body. payload_size body ≤ 2 ^ 41) }
 {
     let mut body = Body::new(alloc)?;
     body.push(0, &[7; 100])?;
@@ -31,7 +30,6 @@ fn small_body(alloc: Global) -> Result<Body, AllocError>
 fn commit_one<M: Machine>(journal: &mut Journal, m: &mut M, body: &Body) -> Result<(), Failed>
     requires stands { StandsFor journal.old (M.meaning m.old) }
     requires size { payload_size body.now ≤ 2 ^ 41 }
-    requires count { length body.now < 2 ^ 32 }
     ensures { OnOk result (StandsFor journal.new (M.meaning m.new)) }
 {
     if journal.needs_reset() {
@@ -50,8 +48,7 @@ fn groups<R: Env + AllocGlobal>(rt: &R) -> io::Result<u32> {
 
 // Recovers the journal and commits the group so many times; whether nothing failed.
 fn commit_all<M: Machine>(m: &mut M, body: &Body, count: u32) -> bool
-    requires size { payload_size body.now ≤ 2 ^ 41 }
-    requires count { length body.now < 2 ^ 32 }
+    requires { payload_size body.now ≤ 2 ^ 41 }
 {
     let Ok(mut journal) = Journal::recover(m) else {
         return false;

@@ -17,7 +17,7 @@ pub enum Fill {
     Byte(u8),
 }
 
-/// What a stop leaves: the two areas up to the last position ever written, and the output by then.
+/// What a stop leaves: the bytes of the two areas, which read zero behind them, and the output by then.
 #[derive(Debug, Drop)]
 pub struct Stopped {
     pub log: Bytes,

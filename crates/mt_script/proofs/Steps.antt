@@ -1,5 +1,5 @@
 -- How the steps of a reader join to its next line.
-use Rattle.std.proofs.Common.{◌≡◌, ℕ, ◌+◌, ◌-◌, ◌^◌, ◌<◌, ◌≤◌, true, false, IsTrue, List, [], ◌∷◌, ◌++◌, Ok, Err, length, take, drop, min, refl, sym, ◌∙◌, ap, subst, arith, append_assoc, length-append, length-take, inl, inr, ⊎_elim}
+use Rattle.std.proofs.Common.{◌≡◌, ℕ, ◌+◌, ◌<◌, ◌≤◌, true, false, IsTrue, List, [], ◌∷◌, ◌++◌, Ok, Err, length, take, drop, refl, sym, ◌∙◌, ap, subst, arith, append_assoc, length-append, length-take, inl, inr, ⊎_elim}
 use Rattle.std.proofs.lemmas.List.{append-nil, take_all, drop_all, length-drop}
 use Rattle.std.proofs.lemmas.Bool.{or_parts, false≢true, cases_lt}
 use Rattle.mt_machine.specs.Meaning.{Supply}

@@ -72,8 +72,7 @@ pub record StandsFor (bytes held : List ℕ) : Type 0 where
   pub every : (rest : List ℕ) → every_line (bytes ++ rest) ≡ every_line (held ++ rest)
   pub every_ended : (rest : List ℕ) → every_line (ended_part (bytes ++ rest)) ≡ every_line (ended_part (held ++ rest))
 
--- No take was made, and the source stands as before; or takes were made, and before the last of them no line
--- had ended. So a further take may follow, or none.
+-- no take was made, and the source is as before; or before the last take no line had ended in what was held
 abbrev pub TakesInTurn : List ℕ → List ℕ → Supply → Supply → Type 0
 TakesInTurn held taken before after = ((taken ≡ []) × (after ≡ before)) ⊎ AsksForLine held taken after
 

@@ -1,6 +1,7 @@
 //! The lines of a script: cut from a source that gives its bytes in any pieces, and the texts that
 //! answer them. It promises that the lines come whole and in order however the source cuts its
-//! bytes, that bytes are asked for only while no whole line is held, and that a failed take loses
+//! bytes; that bytes are asked for only while no whole line is held; and that a fault of the source
+//! ends the reading: the call that met it answers it, no other answer passes over one, and it loses
 //! nothing.
 #![tactic(auto)]
 

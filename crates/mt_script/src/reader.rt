@@ -84,8 +84,9 @@ impl LineReader {
     }
 
     /// Gives out the next line. It takes bytes from the source, in pieces, only while it holds no
-    /// whole line. After `Err` each whole line that was taken has been given out, and a later call
-    /// goes on from what was taken.
+    /// whole line. `Err(Source)` is a take that failed, and with any other answer none did;
+    /// `Err(Budget)` is a spent budget. After `Err` each whole line that was taken has been given
+    /// out, and a later call goes on from what was taken.
     pub fn next<S: Source>(&mut self, source: &mut S) -> Result<Took, ReadStop>
         ensures { Nexts result self.old self.new (S.supply source.old) (S.supply source.new) }
     {

@@ -11,7 +11,7 @@ returns-then-at-lt14-clause-found g c t ranges end group =
     omega (arith, last, within)
 
 pub returns-then-at-lt14-clause-looks : goal.returns-then-at-lt14-clause-looks
-returns-then-at-lt14-clause-looks g c = looks_itself (g.M.Machine.meaning c.args.m.now) c.requires.told (λ t image out. g.met.M.Machine.only_now c.args.m.now image out t)
+returns-then-at-lt14-clause-looks g c = looks_itself (g.M.Machine.meaning c.args.m.now) (g.met.M.Machine.moments_told c.args.m.now) (λ t image out. g.met.M.Machine.only_now c.args.m.now image out t)
 
 pub returns-then-length-lt4-clause-found : goal.returns-then-length-lt4-clause-found
 returns-then-length-lt4-clause-found g c t ranges end group =

@@ -1,4 +1,4 @@
-use Rattle.std.proofs.Common.{◌≡◌, ℕ, arith, subst}
+use Rattle.std.proofs.Common.{◌≡◌, ℕ, refl, ◌∙◌, arith, subst}
 use Rattle.mt_machine.specs.declared.machine.Area.TheVariants.{Log}
 use Rattle.mt_journal.specs.Walk.{Fill}
 use Rattle.mt_journal.proofs.Fills.{fill_none, fill_answers, fill_step, fill_ends}
@@ -9,13 +9,11 @@ pub loop-init : goal.loop-init
 loop-init g c = record {
   low = omega arith;
   high = c.requires.order;
-  looks = looks_itself (g.M.Machine.meaning c.args.m.now) c.requires.told (λ t image out. g.met.M.Machine.only_now c.args.m.now image out t);
+  looks = looks_itself (g.M.Machine.meaning c.args.m.now) (g.met.M.Machine.moments_told c.args.m.now) (λ t image out. g.met.M.Machine.only_now c.args.m.now image out t);
   beneath = g.met.M.Machine.beneath_itself c.args.m.now;
+  faults = refl;
   read = λ t. fill_none ((g.M.Machine.meaning c.args.m.now).content Log) c.args.at;
 }
-
-pub range_within-requires-clause-told : goal.range_within-requires-clause-told
-range_within-requires-clause-told g c t = (c.loop.invariant.looks.leaves.told_moments t).1
 
 pub returns-in_err-range-clause-looks : goal.returns-in_err-range-clause-looks
 returns-in_err-range-clause-looks g c = looks_then c.loop.invariant.looks c.range_within.ensures.looks
@@ -48,5 +46,6 @@ loop-preserved g c =
       high = bounds.2;
       looks = looks_then c.loop.invariant.looks c.range_within.ensures.looks;
       beneath = g.met.M.Machine.beneath_both _ _ _ c.loop.invariant.beneath c.range_within.ensures.beneath;
+      faults = c.in_ok-range.ensures.cause.none ∙ c.loop.invariant.faults;
       read = fill_step _ _ _ c.loop.invariant.looks c.range_within.ensures.looks c.args.at c.loop.place c.loop.counter c.in-Some.range c.loop.invariant.read found;
     }

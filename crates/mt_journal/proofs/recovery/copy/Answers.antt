@@ -1,4 +1,4 @@
-use Rattle.std.proofs.Common.{◌≡◌, ℕ, ◌+◌, ◌≤◌, IsTrue, length, take, arith, subst, length-take}
+use Rattle.std.proofs.Common.{◌≡◌, ℕ, ◌∙◌, ◌+◌, ◌≤◌, IsTrue, length, take, arith, subst, length-take}
 use Rattle.mt_machine.specs.declared.machine.Area.TheVariants.{Pages}
 use Rattle.mt_journal.specs.Steps.{Changes, IsCopied}
 use Rattle.mt_journal.proofs.Copies.{copied_more}
@@ -15,6 +15,7 @@ loop-done-preserved g c =
     record {
       within = within;
       changes = changes_join Pages c.args.to c.args.count c.args.to c.args.count (c.args.to + c.loop-done.done) n _ _ _ (omega arith) (omega arith) (omega arith) (omega arith) c.loop-done.invariant.changes change;
+      faults = c.in_ok-copy_through.ensures.cause.none ∙ c.loop-done.invariant.faults;
       beneath = g.met.M.Machine.beneath_both _ _ _ c.loop-done.invariant.beneath c.copy_through.ensures.beneath;
       copied = copied_more _ _ _ c.args.from c.args.to c.args.count c.loop-done.done n c.loop-done.invariant.changes c.loop-done.invariant.copied change piece;
     }

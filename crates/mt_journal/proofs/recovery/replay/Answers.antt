@@ -1,4 +1,4 @@
-use Rattle.std.proofs.Common.{arith}
+use Rattle.std.proofs.Common.{refl, ◌∙◌, arith}
 use Rattle.std.proofs.lemmas.Result.{err_from_is_err_and}
 use Rattle.mt_journal.proofs.Faults.{err_same}
 use Rattle.mt_machine.specs.LeavesLaws.{looks_itself}
@@ -8,10 +8,11 @@ use Rattle.mt_journal.proofs.recovery.replay.Goals as goal
 
 pub loop-at-init : goal.loop-at-init
 loop-at-init g c =
-    let looks = looks_itself (g.M.Machine.meaning c.args.m.now) c.requires.told (λ t image out. g.met.M.Machine.only_now c.args.m.now image out t) in
+    let looks = looks_itself (g.M.Machine.meaning c.args.m.now) (g.met.M.Machine.moments_told c.args.m.now) (λ t image out. g.met.M.Machine.only_now c.args.m.now image out t) in
     record {
       within = omega arith;
       quiet = quiet_leaves _ _ _ looks.leaves;
+      faults = refl;
       beneath = g.met.M.Machine.beneath_itself c.args.m.now;
       part = λ groups told. replayed_none groups c.args.end _ looks told;
     }
@@ -32,6 +33,7 @@ pub loop-at-preserved : goal.loop-at-preserved
 loop-at-preserved g c = record {
   within = c.in_ok-at.ensures.bounds.1;
   quiet = quiet_join _ _ _ c.loop-at.invariant.quiet c.replay_group.ensures.quiet;
+  faults = c.in_ok-at.ensures.cause ∙ c.loop-at.invariant.faults;
   beneath = g.met.M.Machine.beneath_both _ _ _ c.loop-at.invariant.beneath c.replay_group.ensures.beneath;
   part = λ groups told.
       replay_goes_on c.loop-at.at c.args.end _ _ _ c.loop-at.invariant.quiet c.replay_group.ensures.quiet c.loop-at-test.true groups c.in_ok-at.at

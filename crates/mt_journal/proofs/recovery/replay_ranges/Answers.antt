@@ -1,3 +1,4 @@
+use Rattle.std.proofs.Common.{refl, ◌∙◌}
 use Rattle.std.proofs.lemmas.Result.{err_from_is_err_and}
 use Rattle.mt_journal.proofs.Faults.{err_same}
 use Rattle.mt_machine.specs.LeavesLaws.{looks_itself}
@@ -7,10 +8,11 @@ use Rattle.mt_journal.proofs.recovery.replay_ranges.Goals as goal
 
 pub loop-place-init : goal.loop-place-init
 loop-place-init g c =
-    let looks = looks_itself (g.M.Machine.meaning c.args.m.now) c.requires.told (λ t image out. g.met.M.Machine.only_now c.args.m.now image out t) in
+    let looks = looks_itself (g.M.Machine.meaning c.args.m.now) (g.met.M.Machine.moments_told c.args.m.now) (λ t image out. g.met.M.Machine.only_now c.args.m.now image out t) in
     record {
       high = c.requires.order;
       quiet = quiet_leaves _ _ _ looks.leaves;
+      faults = refl;
       beneath = g.met.M.Machine.beneath_itself c.args.m.now;
       part = λ ranges told. part_none ranges c.args.at c.args.end _ looks told;
     }
@@ -31,6 +33,7 @@ pub loop-place-preserved : goal.loop-place-preserved
 loop-place-preserved g c = record {
   high = c.in_ok-place.ensures.bounds.1;
   quiet = quiet_join _ _ _ c.loop-place.invariant.quiet c.replay_range.ensures.quiet;
+  faults = c.in_ok-place.ensures.cause ∙ c.loop-place.invariant.faults;
   beneath = g.met.M.Machine.beneath_both _ _ _ c.loop-place.invariant.beneath c.replay_range.ensures.beneath;
   part = λ ranges told.
       part_more c.loop-place.place c.args.end _ _ _ c.loop-place.invariant.quiet c.replay_range.ensures.quiet c.loop-place-test.true ranges c.in_ok-place.place

@@ -1,4 +1,4 @@
-use Rattle.std.proofs.Common.{◌≡◌, ℕ, ◌+◌, ◌∷◌, [], ◌++◌, List, length, drop, ap, ◌∙◌, arith, length-append}
+use Rattle.std.proofs.Common.{◌≡◌, ℕ, ◌+◌, ◌-◌, ◌^◌, ◌<◌, ◌∷◌, [], ◌++◌, List, length, drop, ap, ◌∙◌, arith, length-append}
 use Rattle.byteorder.specs.Endian.{little_bytes}
 use Rattle.mt_journal.specs.Layout.{Range}
 use Rattle.mt_journal.specs.Spelling.{Fits, spelling_of_range, ranges_of, IsSpelled}
@@ -17,7 +17,8 @@ pushed c =
     let payload : c.set_count.new.payload.items ≡ little_bytes 4 (length c.self.inside.starts.items + 1) ++ drop 4 (c.self.inside.payload.items ++ spelling_of_range range) =
     c.set_count.ensures ∙ ap (λ (n : ℕ). little_bytes 4 n ++ drop 4 c.append_range.new.payload.items) count
     ∙ ap (λ (l : List ℕ). little_bytes 4 (length c.self.inside.starts.items + 1) ++ drop 4 l) c.in_ok-append_range.ensures.ok in
-    push_spelled c.self.inside.payload.items c.self.inside.starts.items _ _ range c.self.invariant fits payload starts
+    let room : length (ranges_of c.self.inside.payload.items c.self.inside.starts.items) < 2 ^ 32 - 1 = omega (arith, ap length c.self.view_is, c.requires.room) in
+    push_spelled c.self.inside.payload.items c.self.inside.starts.items _ _ range c.self.invariant fits room payload starts
 
 pub invariant_of-self-2 : goal.invariant_of-self-2
 invariant_of-self-2 c = (pushed c).0

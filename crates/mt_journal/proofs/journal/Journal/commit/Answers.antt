@@ -27,7 +27,7 @@ returns-in_err-set_gate-clause-any_moment g c =
     let first = g.met.M.Machine.content_is_image c.args.m.now in
     let within : c.self.inside.tail + 9 + payload_size c.args.body.now < 2 ^ 42 = omega (arith, c.self.view_is, c.requires.short, c.requires.size) in
     let behind = subst (λ (l : List ℕ). IsTrue (g.M.Machine.meaning c.write_behind.new.m).tells → IsBehind ((g.M.Machine.meaning c.write_behind.new.m).content Log) c.self.inside.tail l) c.payload-payload.ensures.spells c.in_ok-write_behind.ensures.stands in
-    opened_leaves c.self.inside.tail c.args.body.now _ _ (9 + length c.payload-payload.result.now) stands first c.write_behind.ensures.changes _ c.payload-payload.ensures.fit c.requires.count within behind c.in_ok-write_behind.ensures.durable c.set_gate.ensures.changes
+    opened_leaves c.self.inside.tail c.args.body.now _ _ (9 + length c.payload-payload.result.now) stands first c.write_behind.ensures.changes _ c.payload-payload.ensures.fit c.payload-payload.ensures.few within behind c.in_ok-write_behind.ensures.durable c.set_gate.ensures.changes
 
 pub returns-in_err-place-clause-any_moment : goal.returns-in_err-place-clause-any_moment
 returns-in_err-place-clause-any_moment g c =
@@ -35,7 +35,7 @@ returns-in_err-place-clause-any_moment g c =
     let first = g.met.M.Machine.content_is_image c.args.m.now in
     let within : c.self.inside.tail + 9 + payload_size c.args.body.now < 2 ^ 42 = omega (arith, c.self.view_is, c.requires.short, c.requires.size) in
     let behind = subst (λ (l : List ℕ). IsTrue (g.M.Machine.meaning c.write_behind.new.m).tells → IsBehind ((g.M.Machine.meaning c.write_behind.new.m).content Log) c.self.inside.tail l) c.payload-payload.ensures.spells c.in_ok-write_behind.ensures.stands in
-    commit_leaves c.self.inside.tail c.args.body.now _ _ (9 + length c.payload-payload.result.now) stands first c.write_behind.ensures.changes _ c.payload-payload.ensures.fit c.requires.count within behind c.in_ok-write_behind.ensures.durable c.set_gate.ensures.changes _ c.in_ok-set_gate.ensures.set c.in_ok-set_gate.ensures.durable c.place.ensures.quiet c.place.ensures.places
+    commit_leaves c.self.inside.tail c.args.body.now _ _ (9 + length c.payload-payload.result.now) stands first c.write_behind.ensures.changes _ c.payload-payload.ensures.fit c.payload-payload.ensures.few within behind c.in_ok-write_behind.ensures.durable c.set_gate.ensures.changes _ c.in_ok-set_gate.ensures.set c.in_ok-set_gate.ensures.durable c.place.ensures.quiet c.place.ensures.places
 
 pub returns-clause-any_moment : goal.returns-clause-any_moment
 returns-clause-any_moment g c =
@@ -43,7 +43,7 @@ returns-clause-any_moment g c =
     let first = g.met.M.Machine.content_is_image c.args.m.now in
     let within : c.self.inside.tail + 9 + payload_size c.args.body.now < 2 ^ 42 = omega (arith, c.self.view_is, c.requires.short, c.requires.size) in
     let behind = subst (λ (l : List ℕ). IsTrue (g.M.Machine.meaning c.write_behind.new.m).tells → IsBehind ((g.M.Machine.meaning c.write_behind.new.m).content Log) c.self.inside.tail l) c.payload-payload.ensures.spells c.in_ok-write_behind.ensures.stands in
-    commit_leaves c.self.inside.tail c.args.body.now _ _ (9 + length c.payload-payload.result.now) stands first c.write_behind.ensures.changes _ c.payload-payload.ensures.fit c.requires.count within behind c.in_ok-write_behind.ensures.durable c.set_gate.ensures.changes _ c.in_ok-set_gate.ensures.set c.in_ok-set_gate.ensures.durable c.place.ensures.quiet c.place.ensures.places
+    commit_leaves c.self.inside.tail c.args.body.now _ _ (9 + length c.payload-payload.result.now) stands first c.write_behind.ensures.changes _ c.payload-payload.ensures.fit c.payload-payload.ensures.few within behind c.in_ok-write_behind.ensures.durable c.set_gate.ensures.changes _ c.in_ok-set_gate.ensures.set c.in_ok-set_gate.ensures.durable c.place.ensures.quiet c.place.ensures.places
 
 pub returns-clause-ok : goal.returns-clause-ok
 returns-clause-ok g c =
@@ -54,4 +54,4 @@ returns-clause-ok g c =
     let new_tail : c.self.inside.tail + 9 + length c.payload-payload.result.now ≡ c.self.inside.tail + 9 + payload_size c.args.body.now =
     ap (λ (n : ℕ). c.self.inside.tail + 9 + n) (ap length c.payload-payload.ensures.spells ∙ length-spelling_of c.args.body.now) in
     subst (λ (n : ℕ). Committed c.args.body.now n (c.self.inside.tail + 9 + length c.payload-payload.result.now) (g.M.Machine.meaning c.args.m.now) (g.M.Machine.meaning c.place.new.m)) c.self.view_is
-    (commit_commits c.self.inside.tail c.args.body.now _ _ (9 + length c.payload-payload.result.now) stands first c.write_behind.ensures.changes _ c.payload-payload.ensures.fit c.requires.count within behind c.in_ok-write_behind.ensures.durable c.set_gate.ensures.changes _ c.in_ok-set_gate.ensures.set c.in_ok-set_gate.ensures.durable c.place.ensures.quiet c.place.ensures.places _ new_tail c.in_ok-place.ensures.placed)
+    (commit_commits c.self.inside.tail c.args.body.now _ _ (9 + length c.payload-payload.result.now) stands first c.write_behind.ensures.changes _ c.payload-payload.ensures.fit c.payload-payload.ensures.few within behind c.in_ok-write_behind.ensures.durable c.set_gate.ensures.changes _ c.in_ok-set_gate.ensures.set c.in_ok-set_gate.ensures.durable c.place.ensures.quiet c.place.ensures.places _ new_tail c.in_ok-place.ensures.placed)
