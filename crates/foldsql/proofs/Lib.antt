@@ -1,5 +1,13 @@
+pub mod Areas
+pub mod Counting
+pub mod Covering
+pub mod Ending
+pub mod Engines
+pub mod Joining
+pub mod Moments
+pub mod Pending
 pub mod Quotas
 pub mod Served
 pub mod Spelled
 pub mod Standing
-pub mod Turns
+pub mod Turning

@@ -1,8 +1,11 @@
-ghost use Rattle.std.specs.Prelude.{◌≡◌, ◌⊎◌, ◌≤◌, ◌<◌, ◌^◌, ◌∷◌, [], ◌↔◌, IsTrue, length, map, string_bytes};
+ghost use Rattle.std.specs.Prelude.{◌≡◌, ◌≢◌, ◌⊎◌, ◌≤◌, ◌<◌, ◌^◌, ◌∷◌, [], ◌↔◌, IsTrue, length, map, string_bytes};
 ghost use Rattle.mt_machine.specs.Meaning.{Rose};
 ghost use Rattle.mt_model.specs.FirstPath.{first_path};
-ghost use Rattle.foldsql.specs.Serves.{AsksRun, AsksPlain, Serves, ServesTenants, IsRefusal, KeepsAreas, code_of};
-ghost use Rattle.foldsql.specs.Turns.{OnlyEmits, HasCause};
+ghost use Rattle.mt_model.specs.Service.{empty_service};
+ghost use Rattle.foldsql.specs.Moments.{on_any_disk};
+ghost use Rattle.foldsql.specs.Serves.{AsksRun, AsksPlain, IsEnd, IsRefusal, KeepsAreas, Serves, ServesTenants};
+ghost use Rattle.foldsql.specs.Status.{code_of};
+ghost use Rattle.foldsql.specs.Turns.{HasCause};
 ghost use Rattle.foldsql.specs.declared.status.Status.{Status};
 
 use crate::run::{finish, run};
@@ -27,7 +30,8 @@ fn is_word(words: &[String], word: &str) -> bool
 // A run of the whole service, kept as plain lists.
 fn run_plain<M: Machine, S: Source>(alloc: Global, source: &mut S, machine: &mut M) -> Status
     ensures serves { ServesTenants result (M.meaning machine.old) (M.meaning machine.new) (S.supply source.old) (S.supply source.new) }
-    ensures emits { OnlyEmits (M.meaning machine.old) (M.meaning machine.new) }
+    ensures areas { KeepsAreas (M.meaning machine.old) (M.meaning machine.new) }
+    ensures alone { result ≢ Status.DiskFault }
     ensures cause { HasCause result (M.meaning machine.old) (M.meaning machine.new) (S.supply source.old) (S.supply source.new) }
     ensures beneath { M.beneath machine.old machine.new }
 {
@@ -43,7 +47,7 @@ fn run_plain<M: Machine, S: Source>(alloc: Global, source: &mut S, machine: &mut
 ///
 /// `run` and `plain` answer each line of the source by one emit before they read the next line:
 /// `run` serves the one form that makes a tenant, `plain` the whole service. Words that are neither
-/// end with status 2. No area is read or written.
+/// end with status 2. No area is read or written, and so nothing of them changes at any moment.
 pub fn foldsql<R: Threads + Sync, M: Machine, S: Source>(
     rt: &R,
     alloc: Global,
@@ -53,7 +57,7 @@ pub fn foldsql<R: Threads + Sync, M: Machine, S: Source>(
 ) -> u8
     // The replies are those of the service, and the lines those of the input.
     ensures run { AsksRun words.now → (status : Status) × (result ≡ code_of status)
-        × Serves first_path status (M.meaning machine.old) (M.meaning machine.new) (S.supply source.old) (S.supply source.new) }
+        × Serves first_path on_any_disk empty_service status (M.meaning machine.old) (M.meaning machine.new) (S.supply source.old) (S.supply source.new) }
     ensures plain { AsksPlain words.now → (status : Status) × (result ≡ code_of status)
         × ServesTenants status (M.meaning machine.old) (M.meaning machine.new) (S.supply source.old) (S.supply source.new) }
 
@@ -61,10 +65,14 @@ pub fn foldsql<R: Threads + Sync, M: Machine, S: Source>(
     ensures refused { (AsksRun words.now → ⊥) → (AsksPlain words.now → ⊥) → (status : Status) × (result ≡ code_of status)
         × IsRefusal status (M.meaning machine.old) (M.meaning machine.new) × (source.new ≡ source.old) }
 
-    // The cause of each status.
+    // The cause of each status. A count of faults rises only where the status tells of it, or where the
+    // output then fails within the line that tells of the input.
+    ensures statuses { IsEnd result }
     ensures words { result ≡ 2 → (AsksRun words.now → ⊥) × (AsksPlain words.now → ⊥) }
     ensures emit_fault { result ≡ 5 → Rose (M.meaning machine.old).emit_faults (M.meaning machine.new).emit_faults }
+    ensures emit_only { (result ≡ 5 → ⊥) → (M.meaning machine.new).emit_faults ≡ (M.meaning machine.old).emit_faults }
     ensures source_fault { result ≡ 6 → Rose (S.supply source.old).faults (S.supply source.new).faults }
+    ensures source_only { (result ≡ 6 → ⊥) → (result ≡ 5 → ⊥) → (S.supply source.new).faults ≡ (S.supply source.old).faults }
 
     // Where neither the output nor the input fails, and the input is not too long, each line is
     // answered, unless there was not memory enough to begin.

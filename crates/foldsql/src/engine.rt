@@ -1,28 +1,58 @@
-ghost use Rattle.std.specs.Prelude.{◌≡◌};
+ghost use Rattle.std.specs.Prelude.{◌≡◌, ◌≢◌, ◌≤◌, Bool, IsTrue, IsOk, IsErr, OnOk, []};
+ghost use Rattle.mt_machine.specs.Meaning.{Disk};
+ghost use Rattle.mt_machine.specs.Keeps.{Keeps, DiskMayFail};
+ghost use Rattle.mt_machine.specs.Leaves.{Leaves};
 ghost use Rattle.mt_tree.specs.declared.code.Code.TheVariants as code;
 ghost use Rattle.mt_script.specs.Lines.{Text, TooLong};
-ghost use Rattle.mt_model.specs.Request.{Request, LineTooLong};
-ghost use Rattle.mt_model.specs.Run.{Rules, Answers};
+ghost use Rattle.mt_model.specs.Laws.{EachStepPrints};
+ghost use Rattle.mt_model.specs.Request.{LineTooLong};
+ghost use Rattle.mt_model.specs.Run.{Rules};
 ghost use Rattle.mt_model.specs.Service.{Service};
 ghost use Rattle.mt_model.specs.Step.{refused};
+ghost use Rattle.foldsql.specs.Turns.{DoesLine};
 
+use mt_machine::{Failed, Machine};
 use mt_tree::Reply;
 
-/// What answers lines, one after another.
+/// What answers lines on a machine, one after another.
 pub(crate) trait Engine {
     /// Which lines say what, and what a request does.
     ghost rules: { Rules };
 
-    /// The service that the engine keeps.
-    ghost service: { Self → Service };
+    /// Which disks hold a service.
+    ghost laid: { Service → Disk → Type 0 };
 
-    /// Answers a line that is not too long and not silent.
-    fn line(&mut self, line: &[u8]) -> Reply
-        ensures { (request : Request) × Answers rules (service self.old) (Text line.now) request result (service self.new) };
+    /// With a disk that reads so the engine keeps this service.
+    ghost holds: { Self → Service → Disk → Type 0 };
+
+    /// What a stop may leave beside a disk that reads so.
+    ghost may_leave: { Self → Disk → Disk → Type 0 };
+
+    /// Whether it leaves the machine alone: no call on it at all.
+    ghost leaves_disk: { Bool };
+
+    /// Answers a line that is not too long and not silent. It puts nothing out. After `Failed`, a fault of
+    /// the disk, a stop leaves the service before the line or the one behind it.
+    fn line<M: Machine>(&mut self, machine: &mut M, line: &[u8]) -> Result<Reply, Failed>
+        requires { (service : Service) × Keeps (holds self.old service) (may_leave self.old) (M.meaning machine.old) }
+        ensures does { IsTrue (M.meaning machine.new).tells → (service : Service) → Keeps (holds self.old service) (may_leave self.old) (M.meaning machine.old)
+            → DoesLine rules laid (λ next. Keeps (holds self.new next) (may_leave self.new) (M.meaning machine.new)) result (Text line.now) service (M.meaning machine.old) (M.meaning machine.new) }
+        ensures ready { OnOk result ((service : Service) × Keeps (holds self.new service) (may_leave self.new) (M.meaning machine.new)) }
+        ensures quiet { Leaves (λ _. Unit {0}) (M.meaning machine.old) (M.meaning machine.new) }
+        ensures alone { IsTrue leaves_disk → IsOk result × (machine.new ≡ machine.old) }
+        ensures cause { IsErr result → DiskMayFail (M.meaning machine.old) (M.meaning machine.new) }
+        ensures stood { OnOk result ((M.meaning machine.new).disk_faults ≡ (M.meaning machine.old).disk_faults) }
+        ensures beneath { M.beneath machine.old machine.new };
 
     /// A line that is too long says so.
     ghost says_too_long: { rules.says TooLong LineTooLong };
 
     /// Such a line is refused.
     ghost refuses_too_long: { (service : Service) → rules.step service LineTooLong ≡ refused service code.LineTooLong };
+
+    /// Each reply of a step prints something.
+    ghost prints: { EachStepPrints rules };
+
+    /// What a stop leaves holds the service.
+    ghost laid_beside: { (engine : Self) (service : Service) (content image : Disk) → holds engine service content → may_leave engine content image → laid service image };
 }

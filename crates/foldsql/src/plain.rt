@@ -1,20 +1,33 @@
 use crate::engine::Engine;
+use mt_machine::{Failed, Machine};
 use mt_private::Plain;
 use mt_tree::Reply;
 
 impl Engine for Plain {
-    ghost use Rattle.std.specs.Prelude.{refl};
+    ghost use Rattle.std.specs.Prelude.{◌≡◌, true, refl};
     ghost use Rattle.mt_model.specs.Isolation.{service_rules};
+    ghost use Rattle.mt_model.specs.Prints.{service_prints};
+    ghost use Rattle.foldsql.specs.Moments.{on_any_disk};
 
     ghost rules = { service_rules };
 
-    ghost service = { λ plain. plain };
+    ghost laid = { on_any_disk };
 
-    fn line(&mut self, line: &[u8]) -> Reply {
-        Plain::line(self, line)
+    ghost holds = { λ plain service _. service ≡ plain };
+
+    ghost may_leave = { λ _ _ _. Unit {0} };
+
+    ghost leaves_disk = { true };
+
+    fn line<M: Machine>(&mut self, machine: &mut M, line: &[u8]) -> Result<Reply, Failed> {
+        Ok(Plain::line(self, line))
     }
 
     ghost says_too_long = { tt };
 
     ghost refuses_too_long = { λ service. refl };
+
+    ghost prints = { service_prints };
+
+    ghost laid_beside = { λ _ _ _ _ _ _. tt };
 }

@@ -1,5 +1,5 @@
 ghost use Rattle.std.specs.Prelude.{◌≡◌};
-ghost use Rattle.foldsql.specs.Serves.{code_of, last_line};
+ghost use Rattle.foldsql.specs.Status.{code_of, last_line};
 
 /// How a call of the program ended.
 #[derive(Clone, Copy, Debug, PartialEq, Eq)]
@@ -8,6 +8,8 @@ pub enum Status {
     Done,
     /// The words after the program's name ask for nothing that there is.
     Words,
+    /// The disk failed within a line.
+    DiskFault,
     /// The output failed.
     EmitFault,
     /// The input failed.
@@ -26,6 +28,7 @@ impl Status {
         match self {
             Status::Done => 0,
             Status::Words => 2,
+            Status::DiskFault => 3,
             Status::EmitFault => 5,
             Status::SourceFault => 6,
             Status::InputTooLong => 7,
@@ -34,13 +37,14 @@ impl Status {
     }
 
     /// The last line of the output, with its line feed; nothing where the status has none.
-    #[tactic(auto, unfolding(crate::specs::Serves::last_line))]
+    #[tactic(auto, unfolding(crate::specs::Status::last_line))]
     pub fn last_line(self) -> &'static str
         ensures { result.now ≡ last_line self }
     {
         match self {
             Status::Done | Status::EmitFault => "",
             Status::Words => "stopped words\n",
+            Status::DiskFault => "stopped disk fault\n",
             Status::SourceFault => "stopped source fault\n",
             Status::InputTooLong => "stopped input too long\n",
             Status::NoMemory => "stopped no memory\n",

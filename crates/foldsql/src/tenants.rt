@@ -2,6 +2,7 @@ ghost use Rattle.std.specs.Prelude.{◌≡◌, ◌^◌, ◌<◌, ◌≤◌};
 
 use crate::create_tenant::create_tenant;
 use crate::engine::Engine;
+use mt_machine::{Failed, Machine};
 use mt_tree::{Code, Reply, ReplyText};
 use std::alloc::Global;
 use std::collections::BTreeMap;
@@ -32,27 +33,40 @@ impl Model for Tenants {
 }
 
 impl Engine for Tenants {
-    ghost use Rattle.std.specs.Prelude.{refl};
+    ghost use Rattle.std.specs.Prelude.{◌≡◌, true, refl};
     ghost use Rattle.mt_model.specs.FirstPath.{first_path};
+    ghost use Rattle.mt_model.specs.Prints.{first_path_prints};
+    ghost use Rattle.foldsql.specs.Moments.{on_any_disk};
     ghost use Rattle.foldsql.specs.Tenants.{service_of};
 
     ghost rules = { first_path };
 
-    ghost service = { service_of };
+    ghost laid = { on_any_disk };
 
-    fn line(&mut self, line: &[u8]) -> Reply {
-        match create_tenant(line) {
-            Some((tenant, quota)) => self.create(tenant, quota),
-            None => Reply::Refused(Code::NotServed),
-        }
+    ghost holds = { λ tenants service _. service ≡ service_of tenants };
+
+    ghost may_leave = { λ _ _ _. Unit {0} };
+
+    ghost leaves_disk = { true };
+
+    fn line<M: Machine>(&mut self, machine: &mut M, line: &[u8]) -> Result<Reply, Failed> {
+        Ok(self.answer(line))
     }
 
     ghost says_too_long = { tt };
 
     ghost refuses_too_long = { λ service. refl };
+
+    ghost prints = { first_path_prints };
+
+    ghost laid_beside = { λ _ _ _ _ _ _. tt };
 }
 
 impl Tenants {
+    ghost use Rattle.mt_script.specs.Lines.{Text};
+    ghost use Rattle.mt_model.specs.FirstPath.{first_path};
+    ghost use Rattle.mt_model.specs.Request.{Request};
+    ghost use Rattle.mt_model.specs.Run.{Answers};
     ghost use Rattle.mt_model.specs.Service.{empty_service};
     ghost use Rattle.foldsql.specs.Tenants.{service_of, Creates};
 
@@ -64,6 +78,16 @@ impl Tenants {
             alloc,
             quotas: BTreeMap::new(alloc),
             total: 0,
+        }
+    }
+
+    // Answers a line that is not too long and not silent.
+    fn answer(&mut self, line: &[u8]) -> Reply
+        ensures { (request : Request) × Answers first_path (service_of self.old) (Text line.now) request result (service_of self.new) }
+    {
+        match create_tenant(line) {
+            Some((tenant, quota)) => self.create(tenant, quota),
+            None => Reply::Refused(Code::NotServed),
         }
     }
 

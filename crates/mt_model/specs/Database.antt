@@ -1,7 +1,9 @@
 -- The private database of one tenant.
 use Rattle.std.specs.Prelude.{ℕ, List, [], ◌∷◌, ◌++◌, length, map, sum_by, option_map}
 use Rattle.mt_tree.specs.declared.schema.Table.{Table}
-pub use Rattle.mt_tree.specs.Rows.{MarkedRow, TableContent, no_rows, visible_rows, with_row}
+pub use Rattle.mt_tree.specs.declared.row.MarkedRow.{MarkedRow}
+pub use Rattle.mt_tree.specs.declared.row.TableContent.{TableContent}
+pub use Rattle.mt_tree.specs.Rows.{no_rows, visible_rows, with_row}
 pub use Rattle.mt_model.specs.declared.database.SavedContent.{SavedContent}
 pub use Rattle.mt_model.specs.declared.database.PrivateDatabase.{PrivateDatabase}
 

@@ -1,5 +1,5 @@
--- Laws of what one tenant sees, for the crates above.
-use Rattle.std.specs.Prelude.{◌≡◌, ℕ, ◌==◌, Bool, true, false, cond, List, [], ◌∷◌, map, Option, Some, None, option_map, codes}
+-- Laws of what one tenant sees and of what is answered, for the crates above.
+use Rattle.std.specs.Prelude.{◌≡◌, ◌≢◌, ℕ, ◌==◌, Bool, true, false, cond, List, [], ◌∷◌, map, Option, Some, None, option_map, codes}
 use Rattle.std.proofs.Common.{refl, sym, ap, ◌∙◌, eq-eqb, eqb-true}
 use Rattle.std.specs.Ordering.{nat_cmp, eq_by_cmp}
 use Rattle.std.specs.Cmp.{unsigned_tied, nat_cmp_total}
@@ -9,8 +9,11 @@ use Rattle.mt_tree.specs.declared.schema.Table.{Table}
 use Rattle.mt_tree.specs.declared.code.Code.{Code}
 use Rattle.mt_tree.specs.declared.simple.SimpleCmd.{SimpleCmd}
 use Rattle.mt_tree.specs.declared.reply.Reply.TheVariants.{Text}
+use Rattle.mt_tree.specs.Replies.{reply_bytes}
 use Rattle.mt_model.specs.Command.{command_refusal, applied}
 use Rattle.mt_model.specs.Database.{PrivateDatabase}
+use Rattle.mt_model.specs.Request.{Request}
+use Rattle.mt_model.specs.Run.{Rules}
 use Rattle.mt_model.specs.Service.{Service, View, view_of, put_database, in_each}
 use Rattle.mt_model.specs.Step.{Stepped, refused, command_step}
 
@@ -83,3 +86,7 @@ command_step-decided service command refusal e = by (command_refusal service com
     by : (found : Option Code) → (elim found [ None ↦ record { reply = Text (codes "ok\n"); next = applied service command } | Some code ↦ refused service code ]) ≡ decided_step service command found
     by None = refl
     by (Some code) = refl
+
+-- each reply of a step of these rules prints something
+abbrev pub EachStepPrints : Rules → Type 0
+EachStepPrints rules = (service : Service) (request : Request) → reply_bytes ((rules.step service request).reply) ≢ []

@@ -6,7 +6,9 @@ ghost use Rattle.mt_tree.specs.declared.reply.Reply.TheVariants.{Refused, Memory
 ghost use Rattle.mt_tree.specs.declared.simple.SimpleStmt.{SimpleStmt};
 ghost use Rattle.mt_tree.specs.declared.simple.SimpleCmd.{SimpleCmd};
 ghost use Rattle.mt_script.specs.Lines.{Line};
+ghost use Rattle.mt_model.specs.FirstPath.{first_path};
 ghost use Rattle.mt_model.specs.Isolation.{service_rules, own_events, replies_to, private_replies};
+ghost use Rattle.mt_model.specs.Laws.{EachStepPrints};
 ghost use Rattle.mt_model.specs.Request.{Request, LineTooLong, Unreadable, IsRequest};
 ghost use Rattle.mt_model.specs.Run.{Answers, IsRun};
 ghost use Rattle.mt_model.specs.Said.{Said, IsStatementSaid, IsCommandSaid};
@@ -48,6 +50,12 @@ pub fn refused_lines_change_nothing()
         → Answers service_rules service line request (Refused code) next → next ≡ service }
     ensures forgone { (service next : Service) (line : Line) (request : Request)
         → Answers service_rules service line request Memory next → next ≡ service }
+{}
+
+/// Each reply prints something, of the service and of its first path.
+pub fn each_reply_prints_something()
+    ensures service { EachStepPrints service_rules }
+    ensures first_path { EachStepPrints first_path }
 {}
 
 /// Whatever lines are sent, the replies to one tenant's lines are those of a private database that

@@ -8,6 +8,6 @@ mod laws;
 
 pub use database::{Content, PrivateDatabase, SavedContent};
 pub use laws::{
-    each_line_says_one_thing, each_text_says_something, isolation, refused_lines_change_nothing,
-    two_worlds, unread_lines_need_no_service,
+    each_line_says_one_thing, each_reply_prints_something, each_text_says_something, isolation,
+    refused_lines_change_nothing, two_worlds, unread_lines_need_no_service,
 };

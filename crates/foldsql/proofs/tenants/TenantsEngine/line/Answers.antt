@@ -1,12 +1,13 @@
--- A line that spells the command asks for its tenant, and any other is not served.
-use Rattle.std.proofs.Common.{inl, refl}
-use Rattle.mt_tree.specs.declared.simple.SimpleCmd.TheVariants.{CreateTenant}
-use Rattle.mt_model.specs.Said.{Says, Unserved}
-use Rattle.mt_model.specs.Request.{Command}
+-- The line is answered in memory.
+use Rattle.mt_model.specs.FirstPath.{first_path}
+use Rattle.foldsql.specs.Tenants.{service_of}
+use Rattle.foldsql.proofs.Engines.{answered_in_memory, keeps_one}
 use Rattle.foldsql.proofs.tenants.TenantsEngine.line.Goals as goal
 
-pub returns-in-Some : goal.returns-in-Some
-returns-in-Some c = (Command (Says (CreateTenant c.in-Some.tenant c.in-Some.quota)), record { said = c.in-Some.ensures.found; outcome = c.create.ensures })
+pub returns-clause-does : goal.returns-clause-does
+returns-clause-does g c =
+    answered_in_memory first_path _ c.answer.ensures.0 c.answer.result (service_of c.args.self.now) (service_of c.answer.new.self) (g.M.Machine.meaning c.args.machine.now)
+    (g.met.M.Machine.moments_told c.args.machine.now) (λ told image out. g.met.M.Machine.only_now c.args.machine.now image out told) c.answer.ensures.1
 
-pub returns-in-None : goal.returns-in-None
-returns-in-None c = (Command Unserved, record { said = c.in-None.ensures.none; outcome = inl (record { reply_is = refl; next_is = refl }) })
+pub returns-clause-ready : goal.returns-clause-ready
+returns-clause-ready g c = (service_of c.answer.new.self, keeps_one (service_of c.answer.new.self) (g.M.Machine.meaning c.args.machine.now) (g.met.M.Machine.moments_told c.args.machine.now))
