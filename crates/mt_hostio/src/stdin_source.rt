@@ -37,7 +37,7 @@ fn read_some<I: Read>(reader: &mut I, buf: &mut [u8]) -> io::Result<usize>
 impl<I: Read + Drop> Source for StdinSource<I> {
     ghost use Rattle.std.specs.Prelude.{false, []};
 
-    ghost supply = { λ s. record { tells = false; left = []; faults = s.faults } };
+    ghost supply = { λ s. record { tells = false; left = []; last = []; takes = 0; faults = s.faults } };
 
     fn take(&mut self, buf: &mut [u8]) -> Result<usize, Failed> {
         match read_some(&mut self.reader, buf) {
