@@ -15,19 +15,19 @@ use std::os::unix::fs::FileExt;
 /// call says so on standard error; a later call tries again. After a sync that failed each later
 /// call on an area fails. Each failed call of a kind adds one to the count of faults of that kind.
 #[derive(Drop)]
-pub struct FolderMachine<'r, R: Files> {
-    rt: &'r R,
+pub struct FolderMachine<R: Files + Drop> {
+    rt: R,
     folder: Folder<R::File>,
     pub(crate) disk_faults: u64,
     pub(crate) emit_faults: u64,
 }
 
-impl<'r, R: Files + Print + Eprint> FolderMachine<'r, R>
+impl<R: Files + Print + Eprint + Drop> FolderMachine<R>
 where
     R::File: FileExt + Lock,
 {
     /// A machine with no file open.
-    pub fn new(rt: &'r R) -> FolderMachine<'r, R>
+    pub fn new(rt: R) -> FolderMachine<R>
         ensures disk_faults { result.disk_faults ≡ 0 }
         ensures emit_faults { result.emit_faults ≡ 0 }
     {
@@ -51,7 +51,7 @@ fn counted(outcome: io::Result<()>, faults: &mut u64) -> Result<(), Failed>
     Ok(())
 }
 
-impl<R: Files + Print + Eprint> Machine for FolderMachine<'_, R>
+impl<R: Files + Print + Eprint + Drop> Machine for FolderMachine<R>
 where
     R::File: FileExt + Lock,
 {
@@ -75,17 +75,17 @@ where
     ghost only_now = { λ _ _ _ told. absurd (false≢true told) };
 
     fn read(&mut self, area: Area, at: u64, buf: &mut [u8]) -> Result<(), Failed> {
-        let outcome = self.folder.read(self.rt, area, at, buf);
+        let outcome = self.folder.read(&self.rt, area, at, buf);
         counted(outcome, &mut self.disk_faults)
     }
 
     fn write(&mut self, area: Area, at: u64, bytes: &[u8]) -> Result<(), Failed> {
-        let outcome = self.folder.write(self.rt, area, at, bytes);
+        let outcome = self.folder.write(&self.rt, area, at, bytes);
         counted(outcome, &mut self.disk_faults)
     }
 
     fn sync(&mut self) -> Result<(), Failed> {
-        let outcome = self.folder.sync(self.rt);
+        let outcome = self.folder.sync(&self.rt);
         counted(outcome, &mut self.disk_faults)
     }
 

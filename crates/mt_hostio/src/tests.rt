@@ -10,7 +10,7 @@ mod calls;
 mod fake;
 
 use calls::{Ask, Trial};
-use fake::{Fake, Outside, Trouble};
+use fake::{Outside, Trouble};
 
 /// Removes what a machine has left in the current folder.
 fn clear(rt: &HostRuntime) {
@@ -91,8 +91,7 @@ sync log
 #[test]
 fn commits_are_synced_in_order(rt: HostRuntime) -> Result<(), Fail> {
     let outside = RefCell::new(Outside::new(rt.alloc(), 0, Trouble::Moves));
-    let fake = Fake { outside: &outside };
-    Trial::new(rt.alloc(), &fake).make_all(&COMMITS)?;
+    Trial::new(rt.alloc(), &outside).make_all(&COMMITS)?;
     assert_eq!(rt; outside.try_borrow()?.notes.as_str(), COMMIT_NOTES);
     Ok(())
 }
@@ -124,8 +123,7 @@ fn each_call_may_go_wrong(rt: HostRuntime) -> Result<(), Fail> {
         let mut all_met = false;
         for wrong in 1..30 {
             let outside = RefCell::new(Outside::new(rt.alloc(), wrong, trouble));
-            let fake = Fake { outside: &outside };
-            Trial::new(rt.alloc(), &fake).make_all(&STEPS)?;
+            Trial::new(rt.alloc(), &outside).make_all(&STEPS)?;
             all_met = outside.try_borrow()?.met.is_none();
         }
         assert!(rt; all_met, "{trouble:?}");

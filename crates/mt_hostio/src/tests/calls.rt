@@ -36,7 +36,7 @@ impl Held {
 // Makes the call, and answers what it read.
 fn make(
     alloc: Global,
-    machine: &mut FolderMachine<'_, Fake<'_>>,
+    machine: &mut FolderMachine<Fake<'_>>,
     ask: Ask,
 ) -> Result<Vec<u8>, Failed> {
     let mut read = Vec::new(alloc);
@@ -53,10 +53,6 @@ fn make(
         Ask::Emit => machine.emit(b"out")?,
     }
     Ok(read)
-}
-
-fn byte_at(bytes: &[u8], k: usize) -> u8 {
-    bytes.get(k).copied().unwrap_or(0)
 }
 
 // Whether an area grew by zeros alone.
@@ -95,25 +91,16 @@ fn did(ask: Ask, read: &[u8], outside: &Outside) -> bool {
     match ask {
         Ask::Read(area, at, _) => {
             let held = stored(outside, area);
-            for (i, byte) in read.iter().enumerate() {
-                if *byte != byte_at(held, (at as usize).wrapping_add(i)) {
-                    return false;
-                }
-            }
-            true
+            let held = &held[held.len().min(at as usize)..];
+            grew(&held[..held.len().min(read.len())], read)
         }
         Ask::Write(area, at, length, byte) => {
-            let held = stored(outside, area);
-            for i in 0..length {
-                if held.get(at as usize + i as usize) != Some(&byte) {
-                    return false;
-                }
+            match stored(outside, area).get(at as usize..at as usize + length as usize) {
+                Some(written) => written.iter().all(|held| *held == byte),
+                None => false,
             }
-            true
         }
-        Ask::Sync => {
-            outside.named && is_durable(&outside.log) && is_durable(&outside.pages)
-        }
+        Ask::Sync => outside.named && is_durable(&outside.log) && is_durable(&outside.pages),
         Ask::Emit => true,
     }
 }
@@ -133,18 +120,18 @@ fn is_fault(call: Call, trouble: Trouble) -> bool {
 pub struct Trial<'o> {
     alloc: Global,
     outside: &'o RefCell<Outside>,
-    machine: FolderMachine<'o, Fake<'o>>,
+    machine: FolderMachine<Fake<'o>>,
     disk_faults: u64,
     emit_faults: u64,
     sync_failed: bool,
 }
 
 impl<'o> Trial<'o> {
-    pub fn new(alloc: Global, fake: &'o Fake<'o>) -> Trial<'o> {
+    pub fn new(alloc: Global, outside: &'o RefCell<Outside>) -> Trial<'o> {
         Trial {
             alloc,
-            outside: fake.outside,
-            machine: FolderMachine::new(fake),
+            outside,
+            machine: FolderMachine::new(Fake { outside }),
             disk_faults: 0,
             emit_faults: 0,
             sync_failed: false,

@@ -97,9 +97,9 @@ impl Stored {
         if self.bytes.len() < end {
             self.bytes.resize(end, 0)?;
         }
-        for (i, byte) in bytes.iter().enumerate() {
-            if let Some(old) = self.bytes.get_mut(at.wrapping_add(i)) {
-                *old = *byte;
+        if let Some(range) = self.bytes.as_mut_slice().get_mut(at..end) {
+            if range.len() == bytes.len() {
+                range.copy_from_slice(bytes);
             }
         }
         Ok(())
@@ -109,12 +109,9 @@ impl Stored {
     fn get(&self, at: usize, buf: &mut [u8]) -> usize
         ensures { result ≤ length buf.new }
     {
-        let count = buf.len().min(self.bytes.len().saturating_sub(at));
-        for (i, byte) in buf.iter_mut().enumerate() {
-            if let Some(held) = self.bytes.get(at.wrapping_add(i)) {
-                *byte = *held;
-            }
-        }
+        let start = at.min(self.bytes.len());
+        let count = buf.len().min(self.bytes.len() - start);
+        buf[..count].copy_from_slice(&self.bytes[start..start + count]);
         count
     }
 
