@@ -26,7 +26,10 @@ fn keeps_what_is_written(rt: HostRuntime) -> Result<(), Fail> {
     machine.sync()?;
     machine.sync()?;
     for path in ["fold.log", "fold.pages"] {
-        assert_eq!(rt; fs::metadata(&rt, path)?.permissions().mode() & 0o777, 0o600);
+        assert_eq!(rt;
+            fs::metadata(&rt, path)?.permissions().mode() & 0o777,
+            0o600
+        );
     }
 
     // another machine waits for nothing, and opens the files once they are free
@@ -55,6 +58,7 @@ const COMMITS: [Ask; 13] = [
     Ask::Sync,
     Ask::Write(Area::Log, 0, 1, 0xa5),
     Ask::Sync,
+    // the range in place, and the next commit
     Ask::Write(Area::Pages, 4096, 8, b'r'),
     Ask::Write(Area::Log, 30, 8, b'l'),
     Ask::Sync,
@@ -91,12 +95,12 @@ sync log
 #[test]
 fn commits_are_synced_in_order(rt: HostRuntime) -> Result<(), Fail> {
     let outside = RefCell::new(Outside::new(rt.alloc(), 0, Trouble::Moves));
-    Trial::new(rt.alloc(), &outside).make_all(&COMMITS)?;
+    assert_eq!(rt; Trial::new(rt.alloc(), &outside).make_all(&COMMITS)?, 0);
     assert_eq!(rt; outside.try_borrow()?.notes.as_str(), COMMIT_NOTES);
     Ok(())
 }
 
-/// Calls that need more than one step of zeros, a write that is longer than one among them.
+/// Calls that need more than one step of zeros; one write among them is longer than a step.
 const STEPS: [Ask; 9] = [
     Ask::Write(Area::Log, 0, 4, b'a'),
     Ask::Write(Area::Log, 65_530, 12, b'b'),
@@ -107,6 +111,14 @@ const STEPS: [Ask; 9] = [
     Ask::Write(Area::Pages, 5, 4, b'e'),
     Ask::Sync,
     Ask::Read(Area::Log, 65_520, 140_000),
+];
+
+/// Calls on the files that these leave.
+const AGAIN: [Ask; 4] = [
+    Ask::Read(Area::Pages, 0, 20),
+    Ask::Write(Area::Log, 340_000, 4, b'f'),
+    Ask::Sync,
+    Ask::Read(Area::Log, 0, 340_010),
 ];
 
 const TROUBLES: [Trouble; 5] = [
@@ -120,13 +132,64 @@ const TROUBLES: [Trouble; 5] = [
 #[test]
 fn each_call_may_go_wrong(rt: HostRuntime) -> Result<(), Fail> {
     for trouble in TROUBLES {
-        let mut all_met = false;
-        for wrong in 1..30 {
+        let mut calls = 0;
+        for wrong in 1..50 {
             let outside = RefCell::new(Outside::new(rt.alloc(), wrong, trouble));
             Trial::new(rt.alloc(), &outside).make_all(&STEPS)?;
-            all_met = outside.try_borrow()?.met.is_none();
+            Trial::new(rt.alloc(), &outside).make_all(&AGAIN)?;
+            let outside = outside.try_borrow()?;
+            assert!(rt; outside.said.is_empty());
+            calls = outside.calls;
         }
-        assert!(rt; all_met, "{trouble:?}");
+        // each of them went wrong once
+        assert!(rt; calls < 49, "{trouble:?} {calls}");
     }
     Ok(())
+}
+
+#[test]
+fn disk_may_be_full(rt: HostRuntime) -> Result<(), Fail> {
+    let trouble = Trouble::Fails(ErrorKind::StorageFull);
+    let outside = RefCell::new(Outside::new(rt.alloc(), 0, trouble));
+    outside.try_borrow_mut()?.room = 65_600;
+    let mut trial = Trial::new(rt.alloc(), &outside);
+    // there is no room for a second step, and there is for some bytes
+    assert_eq!(rt;
+        trial.make_all(&[Ask::Write(Area::Log, 65_530, 12, b'a'), Ask::Sync])?,
+        0
+    );
+    assert_eq!(rt;
+        trial.make_all(&[Ask::Write(Area::Log, 65_590, 12, b'b')])?,
+        1
+    );
+    assert_eq!(rt;
+        trial.make_all(&[Ask::Read(Area::Log, 65_520, 100), Ask::Sync])?,
+        0
+    );
+    Ok(())
+}
+
+#[test]
+fn folder_may_be_held(rt: HostRuntime) -> Result<(), Fail> {
+    let trouble = Trouble::Fails(ErrorKind::WouldBlock);
+    let outside = RefCell::new(Outside::new(rt.alloc(), 0, trouble));
+    outside.try_borrow_mut()?.held = true;
+    let mut trial = Trial::new(rt.alloc(), &outside);
+    assert_eq!(rt; trial.make_all(&STEPS)?, 8);
+    {
+        let mut outside = outside.try_borrow_mut()?;
+        assert_eq!(rt;
+            outside.said.as_str(),
+            "foldsql: another process has this folder\n"
+        );
+        assert!(rt; outside.log.bytes.is_empty() && outside.pages.bytes.is_empty());
+        outside.held = false;
+    }
+    assert_eq!(rt; trial.make_all(&STEPS)?, 0);
+    Ok(())
+}
+
+#[test]
+fn reads_nothing_before_the_first_take(rt: HostRuntime) {
+    let _source = StdinSource::new(&rt);
 }

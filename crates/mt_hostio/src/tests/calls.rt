@@ -34,11 +34,7 @@ impl Held {
 }
 
 // Makes the call, and answers what it read.
-fn make(
-    alloc: Global,
-    machine: &mut FolderMachine<Fake<'_>>,
-    ask: Ask,
-) -> Result<Vec<u8>, Failed> {
+fn make(alloc: Global, machine: &mut FolderMachine<Fake<'_>>, ask: Ask) -> Result<Vec<u8>, Failed> {
     let mut read = Vec::new(alloc);
     match ask {
         Ask::Read(area, at, length) => {
@@ -138,35 +134,37 @@ impl<'o> Trial<'o> {
         }
     }
 
-    /// Makes the calls and looks at each.
-    pub fn make_all(&mut self, asks: &[Ask]) -> Result<(), Fail> {
+    /// Makes the calls, looks at each, and answers how many of them failed.
+    pub fn make_all(&mut self, asks: &[Ask]) -> Result<u64, Fail> {
+        let mut failed = 0u64;
         for ask in asks {
-            if !self.makes_right(*ask)? {
-                let outside = self.outside.try_borrow()?;
-                let (wrong, trouble) = (outside.wrong, outside.trouble);
-                return Err(Fail::new(format_args!("{ask:?}, {trouble:?} at call {wrong}")));
-            }
+            let answer = self.make_one(*ask)?;
+            failed = failed.saturating_add(u64::from(answer.is_err()));
         }
-        Ok(())
+        Ok(failed)
     }
 
-    // Makes a call, and answers whether all that is to be seen of it is right.
-    fn makes_right(&mut self, ask: Ask) -> Result<bool, Fail> {
-        let (old, met) = {
-            let outside = self.outside.try_borrow()?;
-            (Held::of(self.alloc, &outside)?, outside.met)
-        };
+    // Makes a call, and fails where something that is to be seen of it is wrong.
+    fn make_one(&mut self, ask: Ask) -> Result<Result<(), Failed>, Fail> {
+        let old = Held::of(self.alloc, &*self.outside.try_borrow()?)?;
         let answer = make(self.alloc, &mut self.machine, ask);
-        let outside = self.outside.try_borrow()?;
-        let met = if met.is_some() { None } else { outside.met };
-        let is_right = answer.is_err() == self.is_to_fail(ask, met, outside.trouble)
+        let mut outside = self.outside.try_borrow_mut()?;
+        let met = outside.met.take();
+        let is_to_fail = self.is_to_fail(ask, met, outside.trouble);
+        let did = match &answer {
+            Ok(read) => !is_to_fail && did(ask, read, &outside),
+            Err(Failed) => is_to_fail,
+        };
+        if did
             && keeps(ask, Area::Log, &old.log, &outside.log.bytes)
-            && keeps(ask, Area::Pages, &old.pages, &outside.pages.bytes);
-        Ok(match answer {
-            Ok(read) => is_right && did(ask, &read, &outside),
-            Err(Failed) => is_right,
-        } && self.machine.disk_faults == self.disk_faults
-            && self.machine.emit_faults == self.emit_faults)
+            && keeps(ask, Area::Pages, &old.pages, &outside.pages.bytes)
+            && self.machine.disk_faults == self.disk_faults
+            && self.machine.emit_faults == self.emit_faults
+        {
+            return Ok(answer.map(|_| ()));
+        }
+        let (calls, trouble) = (outside.calls, outside.trouble);
+        Err(Fail::new(format_args!("{ask:?} after {calls} calls: {met:?} {trouble:?}")))
     }
 
     // Whether a call is to fail in which this call of the system went wrong. If so, it is counted.

@@ -10,9 +10,6 @@ use std::io;
 use std::io::{ErrorKind, Read, Seek, SeekFrom, Write};
 use std::os::unix::fs::FileExt;
 
-/// How long a step of zeros is.
-const STEP: usize = 1 << 16;
-
 /// What goes wrong at one call.
 #[derive(Clone, Copy, Debug, PartialEq, Eq)]
 pub enum Trouble {
@@ -30,7 +27,7 @@ pub enum Call {
     Length,
     Read,
     Write,
-    /// A write as long as a step of zeros.
+    /// A write of zeros alone.
     Step,
     Sync,
     Print,
@@ -60,7 +57,7 @@ pub struct Outside {
     pub calls: u32,
     pub wrong: u32,
     pub trouble: Trouble,
-    /// What went wrong, once it has.
+    /// The last call that went wrong and was not looked at yet.
     pub met: Option<Call>,
 }
 
@@ -176,7 +173,9 @@ fn name(which: Which) -> &'static str {
 }
 
 fn enter(outside: &RefCell<Outside>) -> io::Result<RefMut<'_, Outside>> {
-    outside.try_borrow_mut().map_err(|_| ErrorKind::Deadlock.into())
+    outside
+        .try_borrow_mut()
+        .map_err(|_| ErrorKind::Deadlock.into())
 }
 
 fn refused<T>() -> io::Result<T>
@@ -278,6 +277,7 @@ impl Lock for FakeFile<'_> {
             .pass(Call::Lock, format_args!("lock {name}"))
             .map_err(TryLockError::Error)?;
         if outside.held {
+            outside.met = Some(Call::Lock);
             return Err(TryLockError::WouldBlock);
         }
         Ok(())
@@ -330,16 +330,23 @@ impl FileExt for FakeFile<'_> {
         let name = name(self.which);
         let (at, length) = (offset as usize, buf.len());
         let mut outside = enter(self.outside)?;
-        let call = if length == STEP { Call::Step } else { Call::Write };
+        let call = if buf.iter().all(|byte| *byte == 0) {
+            Call::Step
+        } else {
+            Call::Write
+        };
         let trouble = outside.note(call, format_args!("write {name} {at} {length}"))?;
         let mut count = length.min(outside.room.saturating_sub(at));
         if trouble.is_some() {
             count = count.min(length.div_ceil(2));
         }
         outside.stored(self.which)?.put(at, &buf[..count])?;
+        if count == 0 {
+            outside.met = Some(call);
+            return Err(ErrorKind::StorageFull.into());
+        }
         match trouble {
             Some(Trouble::Fails(kind)) => Err(kind.into()),
-            _ if count == 0 && length > 0 => Err(ErrorKind::StorageFull.into()),
             _ => Ok(count),
         }
     }
