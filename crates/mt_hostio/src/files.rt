@@ -1,6 +1,7 @@
+use crate::Lock;
 use mt_machine::Area;
-use std::fs::{File, Files, OpenOptions};
-use std::os::unix::fs::FileExt;
+use std::fs::{Files, OpenFile, OpenOptions};
+use std::os::unix::fs::{FileExt, OpenOptionsExt};
 use std::{fs, io};
 
 const LOG: &str = "fold.log";
@@ -13,20 +14,18 @@ const LOG_STEP: [u8; 1 << 16] = [0; 1 << 16];
 
 // An open file of one area.
 #[derive(Drop)]
-struct AreaFile {
-    file: File,
-    // The end of what the file held when it was opened and of all that was written to it since, bytes.
+struct AreaFile<F> {
+    file: F,
+    // The end of what the file held when it was opened and of all that was to be written to it since,
+    // bytes. It counts a write that failed, so that no step of zeros covers what that write left.
     end: u64,
     // Something may have been written that no sync has made durable. A file that was just opened
     // counts as such: an earlier process may have left writes that are not on the disk yet.
     unsynced: bool,
 }
 
-impl AreaFile {
-    // Opens the file, and makes it where it is missing.
-    fn open<R: Files<File = File>>(rt: &R, path: &str) -> io::Result<AreaFile> {
-        let mut options = OpenOptions::new();
-        let file = options.read(true).write(true).create(true).open(rt, path)?;
+impl<F: OpenFile + FileExt + Drop> AreaFile<F> {
+    fn new(file: F) -> io::Result<AreaFile<F>> {
         let end = file.metadata()?.len();
         Ok(AreaFile {
             file,
@@ -37,16 +36,19 @@ impl AreaFile {
 
     fn write(&mut self, at: u64, bytes: &[u8]) -> io::Result<()> {
         self.unsynced = true;
-        self.file.write_all_at(bytes, at)?;
         self.end = self.end.max(at.saturating_add(bytes.len() as u64));
-        Ok(())
+        self.file.write_all_at(bytes, at)
     }
 
     // Writes a step of zeros at the file's end where bytes up to `end` would pass it. Where there is
     // no room for a step, there may be for the bytes.
-    fn make_room(&mut self, end: u64) {
-        if end > self.end {
-            let _ = self.write(self.end, &LOG_STEP);
+    fn make_room(&mut self, end: u64) -> io::Result<()> {
+        if end <= self.end {
+            return Ok(());
+        }
+        match self.write(self.end, &LOG_STEP) {
+            Err(e) if is_full(e.kind()) => Ok(()),
+            outcome => outcome,
         }
     }
 
@@ -59,21 +61,28 @@ impl AreaFile {
     }
 }
 
-// The two files of a folder, both open.
+// The two files of a folder, both open, the log locked.
 #[derive(Drop)]
-pub(crate) struct FolderFiles {
-    log: AreaFile,
-    pages: AreaFile,
-    folder: File,
+pub(crate) struct FolderFiles<F> {
+    log: AreaFile<F>,
+    pages: AreaFile<F>,
+    folder: F,
     // The names of the files may not be on the disk yet.
     unsynced: bool,
 }
 
-impl FolderFiles {
-    pub(crate) fn open<R: Files<File = File>>(rt: &R) -> io::Result<FolderFiles> {
+impl<F: OpenFile + FileExt + Lock + Drop> FolderFiles<F> {
+    // Opens the files, and makes those that are missing. The log has its first step of zeros from
+    // here on, so that no write covers the first gate but those that are asked for. An error of kind
+    // `WouldBlock` is a folder that another process has.
+    pub(crate) fn open<R: Files<File = F>>(rt: &R) -> io::Result<FolderFiles<F>> {
+        let log = open_own(rt, LOG)?;
+        log.try_lock()?;
+        let mut log = AreaFile::new(log)?;
+        log.make_room(1)?;
         Ok(FolderFiles {
-            log: AreaFile::open(rt, LOG)?,
-            pages: AreaFile::open(rt, PAGES)?,
+            log,
+            pages: AreaFile::new(open_own(rt, PAGES)?)?,
             folder: fs::open(rt, ".")?,
             unsynced: true,
         })
@@ -91,7 +100,7 @@ impl FolderFiles {
     pub(crate) fn write(&mut self, area: Area, at: u64, bytes: &[u8]) -> io::Result<()> {
         match area {
             Area::Log => {
-                self.log.make_room(at.saturating_add(bytes.len() as u64));
+                self.log.make_room(at.saturating_add(bytes.len() as u64))?;
                 self.log.write(at, bytes)
             }
             Area::Pages => self.pages.write(at, bytes),
@@ -109,7 +118,22 @@ impl FolderFiles {
     }
 }
 
-fn read_or_zero(file: &File, at: u64, buf: &mut [u8]) -> io::Result<()> {
+// Opens a file to read and write it, and makes it where it is missing, for its owner alone.
+fn open_own<R: Files>(rt: &R, path: &str) -> io::Result<R::File> {
+    let mut options = OpenOptions::new();
+    options.read(true).write(true).create(true).mode(0o600);
+    options.open(rt, path)
+}
+
+// The disk, or the owner's share of it, has no room.
+fn is_full(kind: io::ErrorKind) -> bool {
+    matches!(
+        kind,
+        io::ErrorKind::StorageFull | io::ErrorKind::QuotaExceeded | io::ErrorKind::FileTooLarge
+    )
+}
+
+fn read_or_zero<F: FileExt>(file: &F, at: u64, buf: &mut [u8]) -> io::Result<()> {
     let mut done = 0;
     for _ in 0..u64::MAX {
         if done >= buf.len() {

@@ -1,71 +1,43 @@
 ghost use Rattle.std.specs.Prelude.{◌≡◌};
 ghost use Rattle.mt_machine.specs.Calls.{HasCause};
 
-use crate::files::FolderFiles;
+use crate::Lock;
+use crate::folder::Folder;
 use mt_machine::{Area, Failed, Machine};
-use std::fs::{File, Files};
+use std::fs::Files;
 use std::io;
+use std::os::unix::fs::FileExt;
 
 /// The files `fold.log` and `fold.pages` in the current folder, and standard output.
 ///
-/// Nothing is opened before the first call on an area, which opens both files and makes those that
-/// are missing. Each failed call of a kind adds one to the count of faults of that kind.
+/// Nothing is opened before the first call on an area, which opens both files, makes those that are
+/// missing, and locks the log. Where another process has it, that call fails, and the first such
+/// call says so on standard error; a later call tries again. After a sync that failed each later
+/// call on an area fails. Each failed call of a kind adds one to the count of faults of that kind.
 #[derive(Drop)]
-pub struct FolderMachine<'r, R> {
-    rt: &'r R,
-    files: Option<FolderFiles>,
-    disk_faults: u64,
-    emit_faults: u64,
+pub struct FolderMachine<R: Files + Drop> {
+    rt: R,
+    folder: Folder<R::File>,
+    pub(crate) disk_faults: u64,
+    pub(crate) emit_faults: u64,
 }
 
-impl<'r, R: Files<File = File> + Print> FolderMachine<'r, R> {
+impl<R: Files + Print + Eprint + Drop> FolderMachine<R>
+where
+    R::File: FileExt + Lock,
+{
     /// A machine with no file open.
-    pub fn new(rt: &'r R) -> FolderMachine<'r, R>
+    pub fn new(rt: R) -> FolderMachine<R>
         ensures disk_faults { result.disk_faults ≡ 0 }
         ensures emit_faults { result.emit_faults ≡ 0 }
     {
         FolderMachine {
             rt,
-            files: None,
+            folder: Folder::new(),
             disk_faults: 0,
             emit_faults: 0,
         }
     }
-}
-
-// The open files, which are opened here where they are not open yet.
-fn opened<'f, R: Files<File = File>>(
-    rt: &R,
-    files: &'f mut Option<FolderFiles>,
-) -> io::Result<&'f mut FolderFiles> {
-    match files {
-        Some(open) => Ok(open),
-        None => Ok(files.insert(FolderFiles::open(rt)?)),
-    }
-}
-
-fn read<R: Files<File = File>>(
-    rt: &R,
-    files: &mut Option<FolderFiles>,
-    area: Area,
-    at: u64,
-    buf: &mut [u8],
-) -> io::Result<()> {
-    opened(rt, files)?.read(area, at, buf)
-}
-
-fn write<R: Files<File = File>>(
-    rt: &R,
-    files: &mut Option<FolderFiles>,
-    area: Area,
-    at: u64,
-    bytes: &[u8],
-) -> io::Result<()> {
-    opened(rt, files)?.write(area, at, bytes)
-}
-
-fn sync<R: Files<File = File>>(rt: &R, files: &mut Option<FolderFiles>) -> io::Result<()> {
-    opened(rt, files)?.sync()
 }
 
 // Counts a fault where there is one.
@@ -79,7 +51,10 @@ fn counted(outcome: io::Result<()>, faults: &mut u64) -> Result<(), Failed>
     Ok(())
 }
 
-impl<R: Files<File = File> + Print> Machine for FolderMachine<'_, R> {
+impl<R: Files + Print + Eprint + Drop> Machine for FolderMachine<R>
+where
+    R::File: FileExt + Lock,
+{
     ghost use Rattle.std.specs.Prelude.{false, []};
     ghost use Rattle.std.proofs.lemmas.Bool.{false≢true};
 
@@ -91,6 +66,8 @@ impl<R: Files<File = File> + Print> Machine for FolderMachine<'_, R> {
 
     ghost beneath_both = { λ _ _ _ _ _. tt };
 
+    ghost moments_told = { λ _ told. told };
+
     ghost content_is_image = { λ _ _. tt };
 
     ghost counts_now = { λ _ _ _ _ _ _. tt };
@@ -98,17 +75,17 @@ impl<R: Files<File = File> + Print> Machine for FolderMachine<'_, R> {
     ghost only_now = { λ _ _ _ told. absurd (false≢true told) };
 
     fn read(&mut self, area: Area, at: u64, buf: &mut [u8]) -> Result<(), Failed> {
-        let outcome = read(self.rt, &mut self.files, area, at, buf);
+        let outcome = self.folder.read(&self.rt, area, at, buf);
         counted(outcome, &mut self.disk_faults)
     }
 
     fn write(&mut self, area: Area, at: u64, bytes: &[u8]) -> Result<(), Failed> {
-        let outcome = write(self.rt, &mut self.files, area, at, bytes);
+        let outcome = self.folder.write(&self.rt, area, at, bytes);
         counted(outcome, &mut self.disk_faults)
     }
 
     fn sync(&mut self) -> Result<(), Failed> {
-        let outcome = sync(self.rt, &mut self.files);
+        let outcome = self.folder.sync(&self.rt);
         counted(outcome, &mut self.disk_faults)
     }
 

@@ -4,10 +4,13 @@
 #![tactic(auto)]
 
 mod files;
+mod folder;
 mod folder_machine;
+mod lock;
 mod stdin_source;
 
 pub use folder_machine::FolderMachine;
+pub use lock::Lock;
 pub use stdin_source::StdinSource;
 
 #[cfg(test)]

@@ -1,4 +1,4 @@
-ghost use Rattle.std.specs.Prelude.{◌≤◌, length, IfOk};
+ghost use Rattle.std.specs.Prelude.{◌≡◌, ◌≤◌, length, IfOk};
 
 use mt_machine::{Failed, Source};
 use std::io;
@@ -13,7 +13,9 @@ pub struct StdinSource<I> {
 
 impl<I: Read + Drop> StdinSource<I> {
     /// A source over what the runtime value gives as standard input. It reads nothing.
-    pub fn new<R: Input<Reader = I>>(rt: &R) -> StdinSource<I> {
+    pub fn new<R: Input<Reader = I>>(rt: &R) -> StdinSource<I>
+        ensures { result.faults ≡ 0 }
+    {
         StdinSource {
             reader: rt.reader(),
             faults: 0,
@@ -37,7 +39,7 @@ fn read_some<I: Read>(reader: &mut I, buf: &mut [u8]) -> io::Result<usize>
 impl<I: Read + Drop> Source for StdinSource<I> {
     ghost use Rattle.std.specs.Prelude.{false, []};
 
-    ghost supply = { λ s. record { tells = false; left = []; faults = s.faults } };
+    ghost supply = { λ s. record { tells = false; left = []; last = []; takes = 0; faults = s.faults } };
 
     fn take(&mut self, buf: &mut [u8]) -> Result<usize, Failed> {
         match read_some(&mut self.reader, buf) {
