@@ -17,8 +17,11 @@ use Rattle.foldsql.specs.Turns.{Answered}
 abbrev pub KeepsOne : Service → Meaning → Service → Type 0
 KeepsOne kept machine service = Keeps (λ _. service ≡ kept) (λ _ _. Unit {0}) machine
 
+pub keeps_as : (kept service : Service) (machine : Meaning) → (IsTrue machine.tells_moments → IsTrue machine.tells) → service ≡ kept → KeepsOne kept machine service
+keeps_as kept service machine told same = record { told = told; content = λ _. same; images = λ _ _ _. tt }
+
 pub keeps_one : (service : Service) (machine : Meaning) → (IsTrue machine.tells_moments → IsTrue machine.tells) → KeepsOne service machine service
-keeps_one service machine told = record { told = told; content = λ _. refl; images = λ _ _ _. tt }
+keeps_one service machine told = keeps_as service service machine told refl
 
 pub answered_in_memory : (rules : Rules) (line : Line) (request : Request) (reply : Reply) (kept next : Service) (machine : Meaning) → (IsTrue machine.tells_moments → IsTrue machine.tells)
     → (IsTrue machine.tells_moments → (image : Disk) (out : List ℕ) → machine.since machine.clock image out → Before machine image out) → Answers rules kept line request reply next

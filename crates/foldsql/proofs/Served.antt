@@ -2,6 +2,7 @@
 use Rattle.std.proofs.Common.{◌≡◌, ◌≢◌, ◌⊎◌, inl, inr, ℕ, List, [], ◌++◌, refl, sym, ◌∙◌, ap, subst}
 use Rattle.std.specs.Prelude.{IsTrue}
 use Rattle.mt_machine.specs.Meaning.{Disk, Meaning, Supply}
+use Rattle.mt_machine.specs.Calls.{PutsOutFront}
 use Rattle.mt_script.specs.Lines.{Line, lines_of}
 use Rattle.mt_model.specs.Isolation.{service_rules, own_events, replies_to, private_replies}
 use Rattle.mt_model.specs.Request.{Request}
@@ -11,7 +12,7 @@ use Rattle.mt_tree.specs.declared.reply.Reply.{Reply}
 use Rattle.foldsql.specs.declared.status.Status.{Status}
 use Rattle.foldsql.specs.declared.status.Status.TheVariants.{Done, Words, DiskFault, EmitFault, SourceFault, InputTooLong, NoMemory}
 use Rattle.foldsql.specs.Moments.{on_any_disk}
-use Rattle.foldsql.specs.Serves.{EndsWith, Runs, Serves, ServesTenants}
+use Rattle.foldsql.specs.Serves.{EndsWith, IsRefusal, Runs, Serves, ServesTenants}
 use Rattle.foldsql.specs.Status.{CoversInput, IsBegunAt, IsPrefixOf, last_line}
 use Rattle.foldsql.specs.Turns.{AnswersInput, Counts, Finishes, SaysLast, Stops, StopsWith}
 use Rattle.foldsql.proofs.Covering.{covered_first}
@@ -126,3 +127,15 @@ tenants_served status old new before after isolates whole = record {
   served = whole;
   isolated = λ tells tenant. let runs = whole.told tells in isolates empty_service runs.last whole.lines runs.requests runs.replies tenant runs.run;
 }
+
+words_say : last_line Words ≢ []
+unfolding last_line
+words_say e = cc
+
+-- the words are refused, or the output fails within the line that says so
+pub refusal : (result : Status) (old new : Meaning) → (last_line Words ≢ [] → Finishes Words result old new) → IsRefusal result old new
+refusal result old new finishes = pick ((finishes words_say).says)
+  where
+    pick : SaysLast Words result old new → IsRefusal result old new
+    pick (inl says) = subst (λ st. IsRefusal st old new) (sym says.0) says.1
+    pick (inr cuts) = subst (λ st. IsRefusal st old new) (sym cuts.0) (λ t. let put : PutsOutFront (last_line Words) old.output new.output = cuts.1 t in (put.front, put.output, (put.rest, put.split)))

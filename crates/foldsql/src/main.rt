@@ -6,8 +6,9 @@
 //! The program promises that the replies are those of the service as `mt_model` defines it, one line
 //! after another from the empty service on; that under `plain` no tenant learns of another; that a
 //! line is answered whole or not at all, but for a reply that the output cuts off; that a line which
-//! finds no memory changes nothing; and that the status and the last line of the output say why a
-//! run stopped.
+//! finds no memory changes nothing; that at every moment some whole replies are out, and a front of the
+//! next; that neither area of the disk is touched; and that the status and the last line of the output
+//! say why a run stopped.
 #![tactic(auto)]
 
 mod command;
@@ -20,14 +21,15 @@ mod tenants;
 #[cfg(test)]
 mod tests;
 mod turn;
+mod words;
 
 use command::foldsql;
 use mt_hostio::{FolderMachine, StdinSource};
+use run::finish;
 use status::Status;
-use std::alloc::Global;
+use std::alloc::{AllocError, Global};
 use std::process::ExitCode;
-use std::rt::Env;
-use std::{env, io};
+use words::words;
 
 const USAGE: &str = "usage: foldsql WORD
   run      answers the lines of standard input on standard output; so far it makes tenants
@@ -44,18 +46,15 @@ fn keep_what_is_freed(alloc: Global) {
     let _ = Vec::<u8>::with_capacity(alloc, BLOCK);
 }
 
-// The words after the program's name. An error, as for a word that is not UTF-8, is to count as no words.
-fn words<R: Env + AllocGlobal>(rt: &R) -> io::Result<Vec<String>> {
-    Ok(env::args(rt)?.skip(1).collect(rt.alloc())?)
-}
-
 fn main(rt: HostRuntime) -> ExitCode {
     let alloc = rt.alloc();
     keep_what_is_freed(alloc);
-    let words = words(&rt).unwrap_or(Vec::new(alloc));
     let mut source = StdinSource::new(&rt);
     let mut machine = FolderMachine::new(&rt);
-    let status = foldsql(&rt, alloc, &words, &mut source, &mut machine);
+    let status = match words(&rt) {
+        Ok(words) => foldsql(&rt, alloc, &words, &mut source, &mut machine),
+        Err(AllocError) => finish(Status::NoMemory, &mut machine).code(),
+    };
     if status == Status::Words.code() {
         // There is nobody to tell where this fails too.
         let _ = rt.eprint(USAGE);

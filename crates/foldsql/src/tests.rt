@@ -7,7 +7,9 @@ use std::alloc::{AllocError, Global};
 use std::test::Fail;
 use std::thread::Threads;
 
+mod in_turn;
 mod plain;
+mod words;
 
 /// How many bytes a source in memory gives at a time.
 const PIECE: usize = 7;
