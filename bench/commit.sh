@@ -1,7 +1,8 @@
 #!/bin/sh
 # Times commits of one range of 100 bytes each by the journal alone, on real files, beside sqlite3 in WAL
 # mode with synchronous=FULL that commits one row of 100 bytes each, on the same disk in the same run.
-# The folder is the first word, the number of commits the second.
+# The folder is the first word, the number of commits the second. Where strace is there, a run more counts the
+# journal's calls of the system.
 set -eu
 top=$(cd "$(dirname "$0")/.." && pwd)
 folder=${1:-$top/bench/tmp}
@@ -21,6 +22,12 @@ report() {
 }
 
 report journal "$program" "$count"
+if command -v strace >/dev/null; then
+    strace -f -c -o traced "$program" "$count"
+    awk -v n="$count" '$4 / n >= 0.01 && $NF != "syscall" { printf "%-10s %6.2f %s a commit\n", "journal", $4 / n, $NF }' traced
+else
+    echo "no strace"
+fi
 if command -v sqlite3 >/dev/null; then
     awk -v n="$count" 'BEGIN {
         print "PRAGMA journal_mode=WAL; PRAGMA synchronous=FULL; CREATE TABLE t (id INTEGER PRIMARY KEY, body BLOB);"
