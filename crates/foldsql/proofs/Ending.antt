@@ -117,7 +117,7 @@ module _ (rules : Rules) (laid : Service → Disk → Type 0) (first : Service) 
       (λ _. output_now)
       (λ _ image bytes m. moment_tail rules laid first (lines ++ begun) (a.requests ++ a.ahead.requests) (a.replies ++ a.ahead.replies) (a.replies ++ a.ahead.put) (last_line status) image bytes m)
       (λ t image bytes m. moment_end rules laid first status lines begun old now a (last_line status) bytes image (a.images ((f.moments.told_moments t).0) image m.0)
-          (subst (λ put. BreaksOff bytes put (last_line status)) (sym alone.1) m.1))
+      (subst (λ put. BreaksOff bytes put (last_line status)) (sym alone.1) m.1))
 
   runs_to : (ending : Status) (front : List ℕ) → new.output ≡ now.output ++ front → EndsWith ending taken lines begun after a.ahead.replies a.ahead.put (last_line status) front → Runs rules laid first ending taken lines old new after
   runs_to ending front output ends = record {

@@ -78,8 +78,17 @@ pub moments_first : (rules : Rules) (laid : Service → Disk → Type 0) (first 
     → (IsTrue machine.tells_moments → (image : Disk) (out : List ℕ) → machine.since machine.clock image out → Before machine image out)
     → (IsTrue machine.tells_moments → (image : Disk) → machine.images image → laid first image) → Passes (IsMoment rules laid first [] [] [] [] []) machine machine
 moments_first rules laid first machine told only_now is_laid = leaves_passes (IsMoment rules laid first [] [] [] [] []) (leaves_itself machine (laid first) told only_now is_laid) (λ t image is. record {
-  whole = 0; front = []; put_out = refl; within = omega arith; breaks_off = ([], refl);
-  counted = 0; one_more = inl refl; begun = omega arith; service = first; run = refl; is_laid = is;
+  whole = 0;
+  front = [];
+  put_out = refl;
+  within = omega arith;
+  breaks_off = ([], refl);
+  counted = 0;
+  one_more = inl refl;
+  begun = omega arith;
+  service = first;
+  run = refl;
+  is_laid = is;
 })
 
 -- no line yet

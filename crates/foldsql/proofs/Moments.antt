@@ -107,11 +107,11 @@ module _ (rules : Rules) (laid : Service → Disk → Type 0) (first : Service) 
       let asked_too : length replies ≡ length requests = same.1 ∙ sym same.0 in
       let all : ℕ = length replies + counted in
       subst (λ rs. IsRun rules first (take all (lines ++ more)) (take all (requests ++ asked)) rs service) (sym (take-append-add replies others counted))
-          (subst (λ n. IsRun rules first (take (n + counted) (lines ++ more)) (take all (requests ++ asked)) (replies ++ take counted others) service) (sym same.1)
-          (subst (λ n. IsRun rules first (take (length lines + counted) (lines ++ more)) (take (n + counted) (requests ++ asked)) (replies ++ take counted others) service) (sym asked_too)
-          (subst (λ ls. IsRun rules first ls (take (length requests + counted) (requests ++ asked)) (replies ++ take counted others) service) (sym (take-append-add lines more counted))
-          (subst (λ qs. IsRun rules first (lines ++ take counted more) qs (replies ++ take counted others) service) (sym (take-append-add requests asked counted))
-          (run_join rules first lines requests replies middle (take counted more) (take counted asked) (take counted others) service run then)))))
+      (subst (λ n. IsRun rules first (take (n + counted) (lines ++ more)) (take all (requests ++ asked)) (replies ++ take counted others) service) (sym same.1)
+      (subst (λ n. IsRun rules first (take (length lines + counted) (lines ++ more)) (take (n + counted) (requests ++ asked)) (replies ++ take counted others) service) (sym asked_too)
+      (subst (λ ls. IsRun rules first ls (take (length requests + counted) (requests ++ asked)) (replies ++ take counted others) service) (sym (take-append-add lines more counted))
+      (subst (λ qs. IsRun rules first (lines ++ take counted more) qs (replies ++ take counted others) service) (sym (take-append-add requests asked counted))
+      (run_join rules first lines requests replies middle (take counted more) (take counted asked) (take counted others) service run then)))))
 
   -- a moment of the lines behind is one of all
   pub moment_late : (middle : Service) (lines more : List Line) (requests asked : List Request) (replies others put : List Reply) (tail : List ℕ) (image : Disk) (bytes : List ℕ)
@@ -141,9 +141,17 @@ module _ (rules : Rules) (laid : Service → Disk → Type 0) (first : Service) 
   pub moment_tail : (lines : List Line) (requests : List Request) (replies put : List Reply) (tail : List ℕ) (image : Disk) (bytes : List ℕ)
       → IsMoment rules laid first lines requests replies put [] image bytes → IsMoment rules laid first lines requests replies put tail image bytes
   moment_tail lines requests replies put tail image bytes m = record {
-    whole = m.whole; front = m.front; put_out = m.put_out; within = m.within;
+    whole = m.whole;
+    front = m.front;
+    put_out = m.put_out;
+    within = m.within;
     breaks_off = tail_more (drop m.whole put) m.breaks_off;
-    counted = m.counted; one_more = m.one_more; begun = m.begun; service = m.service; run = m.run; is_laid = m.is_laid;
+    counted = m.counted;
+    one_more = m.one_more;
+    begun = m.begun;
+    service = m.service;
+    run = m.run;
+    is_laid = m.is_laid;
   }
     where
       tail_more : (more : List Reply) → BreaksOff m.front more [] → BreaksOff m.front more tail

@@ -108,12 +108,12 @@ served {A} meaning rules laid first status result old now new before after a cou
     by (inl none) =
         let stays = silent none in
         make (inl stays.0) (λ tells. subst (λ st. Runs rules laid first st a.taken a.lines (meaning old) (meaning new) after) (sym stays.0)
-            (subst (λ (machine : A). Runs rules laid first status a.taken a.lines (meaning old) (meaning machine) after) (sym stays.1)
-            (runs_silent rules laid first status a.taken a.lines a.begun (meaning old) (meaning now) after none a.among a.is_begun (a.told (told tells)))))
+        (subst (λ (machine : A). Runs rules laid first status a.taken a.lines (meaning old) (meaning machine) after) (sym stays.1)
+        (runs_silent rules laid first status a.taken a.lines a.begun (meaning old) (meaning now) after none a.among a.is_begun (a.told (told tells)))))
     by (inr some) =
         let f = finishes some in
         make (says_ending status result (meaning now) (meaning new) f.says)
-            (λ tells. runs_end rules laid first status a.taken a.lines a.begun (meaning old) (meaning now) (meaning new) after some a.covers a.among (a.is_begun (not_cut status some)) (a.told (told tells)) result f tells)
+        (λ tells. runs_end rules laid first status a.taken a.lines a.begun (meaning old) (meaning now) (meaning new) after some a.covers a.among (a.is_begun (not_cut status some)) (a.told (told tells)) result f tells)
 
 -- each run of the service gives a tenant the replies of a private database
 abbrev Isolates : Type 0

@@ -65,7 +65,7 @@ module _ (rules : Rules) (laid : Service → Disk → Type 0) (prints : EachStep
     stopped status begun comes tells =
         let so_far = s.replied (told tells) in
         subst (λ ls. Stops rules laid first status ls begun old new) (append-nil s.lines)
-            (stops_join rules laid prints first s.lines so_far.0 old now new so_far.2 status [] begun (comes tells so_far.0 so_far.1))
+        (stops_join rules laid prints first s.lines so_far.0 old now new so_far.2 status [] begun (comes tells so_far.0 so_far.1))
 
     module _ (line : Line) (gives : GivesOut (reading.held ++ n.taken) line further) where
       lines_on : Pending (s.taken ++ n.taken) (s.lines ++ answered_line line) further

@@ -44,18 +44,45 @@ module _ (rules : Rules) (laid : Service → Disk → Type 0) (service next : Se
   -- nothing of the reply is put out yet, or it is not whole
   moment_within : (put : List Reply) (image : Disk) (front : List ℕ) → LaidEither laid service next image → BreaksOff front put [] → IsMoment rules laid service (line ∷ []) (request ∷ []) (reply ∷ []) put [] image front
   moment_within put image front (inl is) breaks = record {
-    whole = 0; front = front; put_out = refl; within = omega arith; breaks_off = breaks;
-    counted = 0; one_more = inl refl; begun = omega arith; service = service; run = refl; is_laid = is;
+    whole = 0;
+    front = front;
+    put_out = refl;
+    within = omega arith;
+    breaks_off = breaks;
+    counted = 0;
+    one_more = inl refl;
+    begun = omega arith;
+    service = service;
+    run = refl;
+    is_laid = is;
   }
   moment_within put image front (inr is) breaks = record {
-    whole = 0; front = front; put_out = refl; within = omega arith; breaks_off = breaks;
-    counted = 1; one_more = inr refl; begun = omega arith; service = next; run = (next, answers, refl); is_laid = is;
+    whole = 0;
+    front = front;
+    put_out = refl;
+    within = omega arith;
+    breaks_off = breaks;
+    counted = 1;
+    one_more = inr refl;
+    begun = omega arith;
+    service = next;
+    run = (next, answers, refl);
+    is_laid = is;
   }
 
   moment_whole : (image : Disk) (bytes : List ℕ) → laid next image → bytes ≡ reply_bytes reply → IsMoment rules laid service (line ∷ []) (request ∷ []) (reply ∷ []) (reply ∷ []) [] image bytes
   moment_whole image bytes is e = record {
-    whole = 1; front = []; put_out = e ∙ sym (append-nil (reply_bytes reply)) ∙ sym (append-nil (reply_bytes reply ++ [])); within = omega arith; breaks_off = ([], refl);
-    counted = 1; one_more = inl refl; begun = omega arith; service = next; run = (next, answers, refl); is_laid = is;
+    whole = 1;
+    front = [];
+    put_out = e ∙ sym (append-nil (reply_bytes reply)) ∙ sym (append-nil (reply_bytes reply ++ []));
+    within = omega arith;
+    breaks_off = ([], refl);
+    counted = 1;
+    one_more = inl refl;
+    begun = omega arith;
+    service = next;
+    run = (next, answers, refl);
+    is_laid = is;
   }
 
   moment_emit : (image : Disk) (front rest : List ℕ) → laid next image → reply_bytes reply ≡ front ++ rest → IsMoment rules laid service (line ∷ []) (request ∷ []) (reply ∷ []) (reply ∷ []) [] image front
@@ -68,7 +95,10 @@ line_failed rules laid line service old new tells fails =
     let stepped : Stepped = rules.step service fails.request in
     let answers : Answers rules service line fails.request stepped.reply stepped.next = record { said = fails.said; outcome = inl (record { reply_is = refl; next_is = refl }) } in
     record {
-      requests = []; replies = []; last = service; run = refl;
+      requests = [];
+      replies = [];
+      last = service;
+      run = refl;
       ahead = record { few = omega arith; requests = fails.request ∷ []; replies = stepped.reply ∷ []; next = stepped.next; run = (stepped.next, answers, refl); put = []; put_is = inl refl };
       front = [];
       output = fails.leaves.output tells ∙ sym (append-nil old.output) ∙ sym (append-nil (old.output ++ []));
@@ -99,17 +129,24 @@ module _ (rules : Rules) (laid : Service → Disk → Type 0) (prints : EachStep
         (λ t. answered.leaves.output t ∙ sym (append-nil old.output)) (λ _ _ _ m. m) (λ _ _ _ m. m)
 
     reply_whole : IsTrue new.tells → new.output ≡ mid.output ++ reply_bytes reply → (next : Service) × KeepsAt new next × Replied rules laid service (line ∷ []) next old new
-    reply_whole tells all = (answered.next, keeps_after_emit answered.kept emits, record {
-      requests = answered.request ∷ [];
-      replies = reply ∷ [];
-      run = (answered.next, answered.answers, refl);
-      output = all ∙ ap (λ o. o ++ reply_bytes reply) (answered.leaves.output (emits.told tells)) ∙ ap (λ b. old.output ++ b) (sym (append-nil (reply_bytes reply)));
-      moments = reply_moments;
-    })
+    reply_whole tells all = (
+      answered.next,
+      keeps_after_emit answered.kept emits,
+      record {
+        requests = answered.request ∷ [];
+        replies = reply ∷ [];
+        run = (answered.next, answered.answers, refl);
+        output = all ∙ ap (λ o. o ++ reply_bytes reply) (answered.leaves.output (emits.told tells)) ∙ ap (λ b. old.output ++ b) (sym (append-nil (reply_bytes reply)));
+        moments = reply_moments;
+      },
+    )
 
     reply_cut : IsTrue new.tells → PutsOutFront (reply_bytes reply) mid.output new.output → Stops rules laid service EmitFault [] (line ∷ []) old new
     reply_cut tells put = record {
-      requests = []; replies = []; last = service; run = refl;
+      requests = [];
+      replies = [];
+      last = service;
+      run = refl;
       ahead = record { few = omega arith; requests = answered.request ∷ []; replies = reply ∷ []; next = answered.next; run = (answered.next, answered.answers, refl); put = reply ∷ []; put_is = inr refl };
       front = put.front;
       output = put.output ∙ ap (λ o. o ++ put.front) (answered.leaves.output (emits.told tells) ∙ sym (append-nil old.output));
@@ -138,7 +175,10 @@ silent_passes rules laid kept line machine told only_now is_laid silent = subst 
 pub stops_here : (rules : Rules) (laid : Service → Disk → Type 0) (first : Service) (status : Status) (machine : Meaning) → StopsWith status [] [] [] [] → (IsTrue machine.tells_moments → IsTrue machine.tells) → OnlyNow machine
     → AllLaid laid first machine → Stops rules laid first status [] [] machine machine
 stops_here rules laid first status machine ends told only_now is_laid = record {
-  requests = []; replies = []; last = first; run = refl;
+  requests = [];
+  replies = [];
+  last = first;
+  run = refl;
   ahead = record { few = omega arith; requests = []; replies = []; next = first; run = refl; put = []; put_is = inl refl };
   front = [];
   output = sym (append-nil machine.output) ∙ sym (append-nil (machine.output ++ []));

@@ -10,7 +10,10 @@ pub(crate) fn words<R: Env + AllocGlobal>(rt: &R) -> Result<Vec<String>, AllocEr
 
 // The words of a list that begins with the program's name, or none where it could not be had for
 // another reason than want of memory.
-pub(crate) fn words_of(alloc: Global, args: io::Result<env::Args>) -> Result<Vec<String>, AllocError> {
+pub(crate) fn words_of(
+    alloc: Global,
+    args: io::Result<env::Args>,
+) -> Result<Vec<String>, AllocError> {
     match args {
         Ok(args) => args.skip(1).collect(alloc),
         Err(error) if error.kind() == io::ErrorKind::OutOfMemory => Err(AllocError),

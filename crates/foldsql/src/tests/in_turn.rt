@@ -29,10 +29,7 @@ struct Counter {
 /// How many lines that get a reply have ended.
 fn ended_lines(bytes: &[u8]) -> usize {
     let answered = |line: &&[u8]| !silent(line);
-    let all = bytes
-        .split(|byte| *byte == b'\n')
-        .filter(answered)
-        .count();
+    let all = bytes.split(|byte| *byte == b'\n').filter(answered).count();
     let last = bytes.rsplit(|byte| *byte == b'\n').take(1);
     all.saturating_sub(last.filter(answered).count())
 }

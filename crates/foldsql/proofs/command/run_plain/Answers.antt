@@ -15,7 +15,7 @@ returns-in-Err-clause-serves g c =
     let machine = g.M.Machine.meaning c.args.machine.now in
     let source = g.S.Source.supply c.args.source.now in
     tenants_served _ _ _ _ _ c.isolation.ensures
-        (served g.M.Machine.meaning service_rules on_any_disk empty_service NoMemory c.finish.result c.args.machine.now c.args.machine.now c.finish.new.machine source source
-        (not_begun service_rules on_any_disk empty_service machine source (stops_here service_rules on_any_disk empty_service NoMemory machine (refl, refl)
-        (g.met.M.Machine.moments_told c.args.machine.now) (λ t image out. g.met.M.Machine.only_now c.args.machine.now image out t) (λ _ _ _. tt)))
-        (counts_stand (NoMemory ≡ SourceFault) source.faults (λ e. cc)) c.finish.ensures.silent c.finish.ensures.finishes c.finish.ensures.areas.told)
+    (served g.M.Machine.meaning service_rules on_any_disk empty_service NoMemory c.finish.result c.args.machine.now c.args.machine.now c.finish.new.machine source source
+    (not_begun service_rules on_any_disk empty_service machine source (stops_here service_rules on_any_disk empty_service NoMemory machine (refl, refl)
+    (g.met.M.Machine.moments_told c.args.machine.now) (λ t image out. g.met.M.Machine.only_now c.args.machine.now image out t) (λ _ _ _. tt)))
+    (counts_stand (NoMemory ≡ SourceFault) source.faults (λ e. cc)) c.finish.ensures.silent c.finish.ensures.finishes c.finish.ensures.areas.told)

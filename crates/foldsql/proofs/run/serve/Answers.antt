@@ -16,9 +16,9 @@ returns-in_default-clause-answers g c first keeps =
     let engine = c.args.engine.now in
     let machine = g.M.Machine.meaning c.args.machine.now in
     not_begun g.E.Engine.rules g.E.Engine.laid first machine (g.S.Source.supply c.args.source.now)
-        (stops_here g.E.Engine.rules g.E.Engine.laid first NoMemory machine (refl, refl)
-        (g.met.M.Machine.moments_told c.args.machine.now) (λ t image out. g.met.M.Machine.only_now c.args.machine.now image out t)
-        (keeps_laid g.E.Engine.laid (g.E.Engine.holds engine) (g.E.Engine.may_leave engine) (g.met.E.Engine.laid_beside engine) first machine keeps))
+    (stops_here g.E.Engine.rules g.E.Engine.laid first NoMemory machine (refl, refl)
+    (g.met.M.Machine.moments_told c.args.machine.now) (λ t image out. g.met.M.Machine.only_now c.args.machine.now image out t)
+    (keeps_laid g.E.Engine.laid (g.E.Engine.holds engine) (g.E.Engine.may_leave engine) (g.met.E.Engine.laid_beside engine) first machine keeps))
 
 pub turns-init : goal.turns-init
 turns-init g c =

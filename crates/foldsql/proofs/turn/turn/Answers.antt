@@ -43,9 +43,12 @@ returns-in-Ok-End-clause-turns g c =
     record {
       took = Ok took.End;
       nexts = rw c.in-Ok-End.field-0-is at c.in-Ok-End.ensures;
-      outcome = (refl, λ tells service keeps. stops_here g.E.Engine.rules g.E.Engine.laid service Done machine (refl, refl)
-          (g.met.M.Machine.moments_told c.args.machine.now) (λ t image out. g.met.M.Machine.only_now c.args.machine.now image out t)
-          (keeps_laid g.E.Engine.laid (g.E.Engine.holds engine) (g.E.Engine.may_leave engine) (g.met.E.Engine.laid_beside engine) service machine keeps));
+      outcome = (
+        refl,
+        λ tells service keeps. stops_here g.E.Engine.rules g.E.Engine.laid service Done machine (refl, refl)
+            (g.met.M.Machine.moments_told c.args.machine.now) (λ t image out. g.met.M.Machine.only_now c.args.machine.now image out t)
+            (keeps_laid g.E.Engine.laid (g.E.Engine.holds engine) (g.E.Engine.may_leave engine) (g.met.E.Engine.laid_beside engine) service machine keeps),
+      );
     }
 
 pub returns-in-Err-Source-clause-turns : goal.returns-in-Err-Source-clause-turns
@@ -55,9 +58,12 @@ returns-in-Err-Source-clause-turns g c =
     record {
       took = Err stop.Source;
       nexts = rw c.in-Err-Source.field-0-is at c.in-Err-Source.ensures;
-      outcome = (refl, λ tells service keeps. stops_here g.E.Engine.rules g.E.Engine.laid service SourceFault machine (refl, refl)
-          (g.met.M.Machine.moments_told c.args.machine.now) (λ t image out. g.met.M.Machine.only_now c.args.machine.now image out t)
-          (keeps_laid g.E.Engine.laid (g.E.Engine.holds engine) (g.E.Engine.may_leave engine) (g.met.E.Engine.laid_beside engine) service machine keeps));
+      outcome = (
+        refl,
+        λ tells service keeps. stops_here g.E.Engine.rules g.E.Engine.laid service SourceFault machine (refl, refl)
+            (g.met.M.Machine.moments_told c.args.machine.now) (λ t image out. g.met.M.Machine.only_now c.args.machine.now image out t)
+            (keeps_laid g.E.Engine.laid (g.E.Engine.holds engine) (g.E.Engine.may_leave engine) (g.met.E.Engine.laid_beside engine) service machine keeps),
+      );
     }
 
 pub returns-in-Err-Budget-clause-turns : goal.returns-in-Err-Budget-clause-turns
@@ -67,7 +73,10 @@ returns-in-Err-Budget-clause-turns g c =
     record {
       took = Err stop.Budget;
       nexts = rw c.in-Err-Budget.field-0-is at c.in-Err-Budget.ensures;
-      outcome = (refl, λ tells service keeps. stops_here g.E.Engine.rules g.E.Engine.laid service InputTooLong machine (refl, refl)
-          (g.met.M.Machine.moments_told c.args.machine.now) (λ t image out. g.met.M.Machine.only_now c.args.machine.now image out t)
-          (keeps_laid g.E.Engine.laid (g.E.Engine.holds engine) (g.E.Engine.may_leave engine) (g.met.E.Engine.laid_beside engine) service machine keeps));
+      outcome = (
+        refl,
+        λ tells service keeps. stops_here g.E.Engine.rules g.E.Engine.laid service InputTooLong machine (refl, refl)
+            (g.met.M.Machine.moments_told c.args.machine.now) (λ t image out. g.met.M.Machine.only_now c.args.machine.now image out t)
+            (keeps_laid g.E.Engine.laid (g.E.Engine.holds engine) (g.E.Engine.may_leave engine) (g.met.E.Engine.laid_beside engine) service machine keeps),
+      );
     }
