@@ -5,10 +5,14 @@ use Rattle.mt_model.specs.Service.{empty_service}
 use Rattle.foldsql.specs.Moments.{on_any_disk}
 use Rattle.foldsql.specs.declared.status.Status.TheVariants.{NoMemory, SourceFault}
 use Rattle.foldsql.proofs.Counting.{counts_stand}
+use Rattle.foldsql.proofs.Engines.{keeps_one}
 use Rattle.foldsql.proofs.Served.{served, tenants_served}
 use Rattle.foldsql.proofs.Standing.{not_begun}
 use Rattle.foldsql.proofs.Turning.{stops_here}
 use Rattle.foldsql.proofs.command.run_plain.Goals as goal
+
+pub run-requires : goal.run-requires
+run-requires g c = (c.in-Ok.plain, keeps_one c.in-Ok.plain (g.M.Machine.meaning c.args.machine.now) (g.met.M.Machine.moments_told c.args.machine.now))
 
 pub returns-in-Err-clause-serves : goal.returns-in-Err-clause-serves
 returns-in-Err-clause-serves g c =
