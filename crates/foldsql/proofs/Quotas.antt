@@ -21,7 +21,7 @@ use Rattle.mt_model.specs.declared.database.PrivateDatabase.{PrivateDatabase}
 use Rattle.mt_model.specs.Run.{IsStepped}
 use Rattle.mt_model.specs.Service.{Service, empty_service, quota_total}
 use Rattle.mt_model.specs.Step.{Stepped, refused}
-use Rattle.foldsql.specs.Tenants.{service_of, database_of, create_step}
+use Rattle.foldsql.specs.Tenants.{service_with_quotas, database_of, create_step}
 
 -- the database with this quota, where there is no table
 abbrev with_quota : ℕ → PrivateDatabase
@@ -29,7 +29,7 @@ with_quota q = new_database [] q
 
 -- the service with one tenant more
 abbrev with_tenant : List (ℕ × ℕ) → ℕ → ℕ → Service
-with_tenant es t q = applied (service_of es) (CreateTenant t q)
+with_tenant es t q = applied (service_with_quotas es) (CreateTenant t q)
 
 -- the service of these tenants
 abbrev of_tenants : map.FinMap nat_cmp PrivateDatabase → Service
@@ -41,7 +41,7 @@ find_database [] t = refl
 find_database (e ∷ es) t = elim (is_at (nat_cmp t) e.0) as (λ b. cond b (Some (with_quota e.1)) (find nat_cmp t (map_list database_of es)) ≡ option_map with_quota (cond b (Some e.1) (lookup (is_at (nat_cmp t)) es))) [ true ↦ refl | false ↦ find_database es t ]
 
 -- what the service has at a tenant
-get_service : (es : List (ℕ × ℕ)) (t : ℕ) → map.get (service_of es).tenants t ≡ option_map with_quota (lookup (is_at (nat_cmp t)) es)
+get_service : (es : List (ℕ × ℕ)) (t : ℕ) → map.get (service_with_quotas es).tenants t ≡ option_map with_quota (lookup (is_at (nat_cmp t)) es)
 get_service es t = map.get-from_entries nat_cmp_total (map_list database_of es) t ∙ find_database es t
 
 is_some_map : {A B : Type 0} (f : A → B) (o : Option A) → is_some (option_map f o) ≡ is_some o
@@ -49,7 +49,7 @@ is_some_map f None = refl
 is_some_map f (Some x) = refl
 
 -- whether the service has a tenant
-pub contains_service : (es : List (ℕ × ℕ)) (t : ℕ) → map.contains_key (service_of es).tenants t ≡ is_some (lookup (is_at (nat_cmp t)) es)
+pub contains_service : (es : List (ℕ × ℕ)) (t : ℕ) → map.contains_key (service_with_quotas es).tenants t ≡ is_some (lookup (is_at (nat_cmp t)) es)
 contains_service es t = ap is_some (get_service es t) ∙ is_some_map with_quota _
 
 map_cond : (b : Bool) (q : ℕ) (o : Option ℕ) → option_map with_quota (cond b (Some q) o) ≡ cond b (Some (with_quota q)) (option_map with_quota o)
@@ -57,12 +57,12 @@ map_cond true q o = refl
 map_cond false q o = refl
 
 -- one quota more is one tenant more
-pub service_with : (es fs : List (ℕ × ℕ)) (t q : ℕ) → ((u : ℕ) → lookup (is_at (nat_cmp u)) fs ≡ cond (is_at (nat_cmp t) u) (Some q) (lookup (is_at (nat_cmp u)) es)) → service_of fs ≡ with_tenant es t q
+pub service_with : (es fs : List (ℕ × ℕ)) (t q : ℕ) → ((u : ℕ) → lookup (is_at (nat_cmp u)) fs ≡ cond (is_at (nat_cmp t) u) (Some q) (lookup (is_at (nat_cmp u)) es)) → service_with_quotas fs ≡ with_tenant es t q
 service_with es fs t q updates =
     ap of_tenants (map.same_map nat_cmp_total map.nat_cmp-IsAntisymmetric _ _ (λ u.
     get_service fs u ∙ ap (option_map with_quota) (updates u) ∙ map_cond (is_at (nat_cmp t) u) q _
     ∙ ap (λ b. cond b (Some (with_quota q)) (option_map with_quota (lookup (is_at (nat_cmp u)) es))) ((eq_by_cmp_equiv nat_cmp_total).symm t u)
-    ∙ sym (map.get-insert nat_cmp_total (service_of es).tenants t (with_quota q) u ∙ ap (cond (eq_by_cmp nat_cmp u t) (Some (with_quota q))) (get_service es u))))
+    ∙ sym (map.get-insert nat_cmp_total (service_with_quotas es).tenants t (with_quota q) u ∙ ap (cond (eq_by_cmp nat_cmp u t) (Some (with_quota q))) (get_service es u))))
 
 -- the quotas of these databases together
 abbrev quotas_in : List (ℕ × PrivateDatabase) → ℕ
@@ -83,19 +83,19 @@ quotas_in-put (e ∷ es) t d none =
     ] none
 
 -- one tenant more adds the quota
-pub quota_total-with_tenant : (es : List (ℕ × ℕ)) (t q : ℕ) → map.contains_key (service_of es).tenants t ≡ false → quota_total (with_tenant es t q) ≡ quota_total (service_of es) + q
+pub quota_total-with_tenant : (es : List (ℕ × ℕ)) (t q : ℕ) → map.contains_key (service_with_quotas es).tenants t ≡ false → quota_total (with_tenant es t q) ≡ quota_total (service_with_quotas es) + q
 unfolding quota_total
 quota_total-with_tenant es t q none =
-    let tenants = (service_of es).tenants in
+    let tenants = (service_with_quotas es).tenants in
     let absent : is_some (find nat_cmp t (map.entries tenants)) ≡ false = sym (ap is_some (map.get-entries tenants t)) ∙ none in
     ap quotas_in (map.entries-insert nat_cmp_total tenants t (with_quota q)) ∙ quotas_in-put (map.entries tenants) t (with_quota q) absent
 
 -- no quotas make the empty service, which has no sum
-pub service_of_nothing : service_of [] ≡ empty_service
+pub service_with_no_quotas : service_with_quotas [] ≡ empty_service
 unfolding empty_service
-service_of_nothing = refl
+service_with_no_quotas = refl
 
-pub quota_total_of_nothing : quota_total (service_of []) ≡ 0
+pub quota_total_of_nothing : quota_total (service_with_quotas []) ≡ 0
 unfolding quota_total
 quota_total_of_nothing =
     let none : map.entries (map.empty {K = ℕ} {X = PrivateDatabase} {R = nat_cmp}) ≡ [] = nil_from_length _ (sym (map.len-entries _) ∙ map.len-empty nat_cmp PrivateDatabase) in
@@ -111,22 +111,22 @@ created es t q = record { reply = Text (codes "ok\n"); next = with_tenant es t q
 
 -- the step where the tenant is not there
 abbrev where_absent : List (ℕ × ℕ) → ℕ → ℕ → Stepped
-where_absent es t q = cond (nat_lt 1048576 (quota_total (service_of es) + q)) (refused (service_of es) QuotasTooLarge) (created es t q)
+where_absent es t q = cond (nat_lt 1048576 (quota_total (service_with_quotas es) + q)) (refused (service_with_quotas es) QuotasTooLarge) (created es t q)
 
 -- a tenant that is there is refused
-pub exists_stepped : (es : List (ℕ × ℕ)) (t q : ℕ) → map.contains_key (service_of es).tenants t ≡ true → IsStepped (create_step t q es) (Refused NameExists) (service_of es)
-exists_stepped es t q there = stepped (create_step t q es) (refused (service_of es) NameExists) (ap (λ b. cond b (refused (service_of es) NameExists) (where_absent es t q)) there)
+pub exists_stepped : (es : List (ℕ × ℕ)) (t q : ℕ) → map.contains_key (service_with_quotas es).tenants t ≡ true → IsStepped (create_step t q es) (Refused NameExists) (service_with_quotas es)
+exists_stepped es t q there = stepped (create_step t q es) (refused (service_with_quotas es) NameExists) (ap (λ b. cond b (refused (service_with_quotas es) NameExists) (where_absent es t q)) there)
 
 -- the command where the tenant is not there
-absent_step : (es : List (ℕ × ℕ)) (t q : ℕ) (large : Bool) → map.contains_key (service_of es).tenants t ≡ false → nat_lt 1048576 (quota_total (service_of es) + q) ≡ large → create_step t q es ≡ cond large (refused (service_of es) QuotasTooLarge) (created es t q)
+absent_step : (es : List (ℕ × ℕ)) (t q : ℕ) (large : Bool) → map.contains_key (service_with_quotas es).tenants t ≡ false → nat_lt 1048576 (quota_total (service_with_quotas es) + q) ≡ large → create_step t q es ≡ cond large (refused (service_with_quotas es) QuotasTooLarge) (created es t q)
 absent_step es t q large absent test =
-    ap (λ b. cond b (refused (service_of es) NameExists) (where_absent es t q)) absent
-    ∙ ap (λ b. cond b (refused (service_of es) QuotasTooLarge) (created es t q)) test
+    ap (λ b. cond b (refused (service_with_quotas es) NameExists) (where_absent es t q)) absent
+    ∙ ap (λ b. cond b (refused (service_with_quotas es) QuotasTooLarge) (created es t q)) test
 
 -- quotas that are too large together are refused
-pub too_large_stepped : (es : List (ℕ × ℕ)) (t q : ℕ) → map.contains_key (service_of es).tenants t ≡ false → 1048576 < quota_total (service_of es) + q → IsStepped (create_step t q es) (Refused QuotasTooLarge) (service_of es)
-too_large_stepped es t q absent large = stepped (create_step t q es) (refused (service_of es) QuotasTooLarge) (absent_step es t q true absent (grind (arith, common_steps)))
+pub too_large_stepped : (es : List (ℕ × ℕ)) (t q : ℕ) → map.contains_key (service_with_quotas es).tenants t ≡ false → 1048576 < quota_total (service_with_quotas es) + q → IsStepped (create_step t q es) (Refused QuotasTooLarge) (service_with_quotas es)
+too_large_stepped es t q absent large = stepped (create_step t q es) (refused (service_with_quotas es) QuotasTooLarge) (absent_step es t q true absent (grind (arith, common_steps)))
 
 -- another tenant is made
-pub created_stepped : (es : List (ℕ × ℕ)) (t q : ℕ) → map.contains_key (service_of es).tenants t ≡ false → quota_total (service_of es) + q ≤ 1048576 → IsStepped (create_step t q es) (Text (codes "ok\n")) (with_tenant es t q)
+pub created_stepped : (es : List (ℕ × ℕ)) (t q : ℕ) → map.contains_key (service_with_quotas es).tenants t ≡ false → quota_total (service_with_quotas es) + q ≤ 1048576 → IsStepped (create_step t q es) (Text (codes "ok\n")) (with_tenant es t q)
 created_stepped es t q absent small = stepped (create_step t q es) (created es t q) (absent_step es t q false absent (grind (arith, common_steps)))

@@ -16,7 +16,7 @@ use Rattle.mt_tree.specs.Replies.{reply_bytes}
 use Rattle.mt_script.specs.Lines as lines
 use Rattle.mt_script.specs.Lines.{Line, is_answered}
 use Rattle.mt_model.specs.Laws.{EachStepPrints}
-use Rattle.mt_model.specs.Request.{Request, LineTooLong}
+use Rattle.mt_model.specs.Request.{Request, Overlong}
 use Rattle.mt_model.specs.Service.{Service}
 use Rattle.mt_model.specs.Step.{Stepped, refused}
 use Rattle.mt_model.specs.Run.{Rules, Answers, replies_bytes}
@@ -189,15 +189,15 @@ stops_here rules laid first status machine ends told only_now is_laid = record {
 
 -- the rules refuse a line that is too long, as such
 pub record RefuseTooLong (rules : Rules) : Type 0 where
-  pub says : rules.says lines.TooLong LineTooLong
-  pub refuses : (service : Service) → rules.step service LineTooLong ≡ refused service code.LineTooLong
+  pub says : rules.says lines.TooLong Overlong
+  pub refuses : (service : Service) → rules.step service Overlong ≡ refused service code.LineTooLong
 
 -- the refusal is the answer to it
 pub long_answered : (rules : Rules) (laid : Service → Disk → Type 0) (kept : Service → Type 0) (machine : Meaning) → (IsTrue machine.tells_moments → IsTrue machine.tells) → OnlyNow machine
     → ((service : Service) → kept service → AllLaid laid service machine) → RefuseTooLong rules → (service : Service) → kept service
     → Answered rules laid kept (Refused code.LineTooLong) lines.TooLong service machine machine
 long_answered rules laid kept machine told only_now is_laid refuse service keeps = record {
-  request = LineTooLong;
+  request = Overlong;
   next = service;
   answers = record {
     said = refuse.says;

@@ -17,20 +17,20 @@ abbrev pub database_of : ℕ × ℕ → ℕ × PrivateDatabase
 database_of entry = (entry.0, new_database [] entry.1)
 
 -- the service of these tenants with their quotas, without a table
-abbrev pub service_of : List (ℕ × ℕ) → Service
-service_of quotas = record { tables = []; tenants = finite.from_entries (map_list database_of quotas) }
+abbrev pub service_with_quotas : List (ℕ × ℕ) → Service
+service_with_quotas quotas = record { tables = []; tenants = finite.from_entries (map_list database_of quotas) }
 
 -- the sum is that of all quotas, and no larger than it may be
 pub record IsTotal (quotas : List (ℕ × ℕ)) (total : ℕ) : Type 0 where
-  pub sum : total ≡ quota_total (service_of quotas)
+  pub sum : total ≡ quota_total (service_with_quotas quotas)
   pub upto : total ≤ 1048576
 
 -- what the command that makes a tenant does, and what it is answered
 abbrev pub create_step : ℕ → ℕ → List (ℕ × ℕ) → Stepped
-create_step tenant quota quotas = first_path_step (service_of quotas) (Command (Says (CreateTenant tenant quota)))
+create_step tenant quota quotas = first_path_step (service_with_quotas quotas) (Command (Says (CreateTenant tenant quota)))
 
 -- the command is done, or answered for want of memory
 abbrev pub Creates : ℕ → ℕ → List (ℕ × ℕ) → Reply → List (ℕ × ℕ) → Type 0
 Creates tenant quota quotas reply next =
-    IsStepped (create_step tenant quota quotas) reply (service_of next)
-    ⊎ IsForgone (service_of quotas) (create_step tenant quota quotas) reply (service_of next)
+    IsStepped (create_step tenant quota quotas) reply (service_with_quotas next)
+    ⊎ IsForgone (service_with_quotas quotas) (create_step tenant quota quotas) reply (service_with_quotas next)

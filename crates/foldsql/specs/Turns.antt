@@ -150,7 +150,7 @@ pub record FinishCounts (status result : Status) (old new : Meaning) : Type 0 wh
   pub stood : result ≢ EmitFault → (result ≡ status) × (new.emit_faults ≡ old.emit_faults)
 
 -- why a run has its status
-pub record HasCause (status : Status) (old new : Meaning) (before after : Supply) : Type 0 where
+pub record HasStatusCause (status : Status) (old new : Meaning) (before after : Supply) : Type 0 where
   pub words : status ≢ Words
   pub emits : Counts (status ≡ EmitFault) old.emit_faults new.emit_faults
   pub faults : before.faults ≤ after.faults

@@ -5,7 +5,7 @@ ghost use Rattle.mt_model.specs.Service.{empty_service};
 ghost use Rattle.foldsql.specs.Moments.{on_any_disk};
 ghost use Rattle.foldsql.specs.Serves.{AsksRun, AsksPlain, IsEnd, IsRefusal, KeepsAreas, Serves, ServesTenants};
 ghost use Rattle.foldsql.specs.Status.{code_of};
-ghost use Rattle.foldsql.specs.Turns.{HasCause};
+ghost use Rattle.foldsql.specs.Turns.{HasStatusCause};
 ghost use Rattle.foldsql.specs.declared.status.Status.{Status};
 
 use crate::run::{finish, run};
@@ -32,7 +32,7 @@ fn run_plain<M: Machine, S: Source>(alloc: Global, source: &mut S, machine: &mut
     ensures serves { ServesTenants result (M.meaning machine.old) (M.meaning machine.new) (S.supply source.old) (S.supply source.new) }
     ensures areas { KeepsAreas (M.meaning machine.old) (M.meaning machine.new) }
     ensures alone { result ≢ Status.DiskFault }
-    ensures cause { HasCause result (M.meaning machine.old) (M.meaning machine.new) (S.supply source.old) (S.supply source.new) }
+    ensures cause { HasStatusCause result (M.meaning machine.old) (M.meaning machine.new) (S.supply source.old) (S.supply source.new) }
     ensures beneath { M.beneath machine.old machine.new }
 {
     isolation();

@@ -5,7 +5,7 @@ ghost use Rattle.mt_machine.specs.Leaves.{Leaves};
 ghost use Rattle.mt_tree.specs.declared.code.Code.TheVariants as code;
 ghost use Rattle.mt_script.specs.Lines.{Text, TooLong};
 ghost use Rattle.mt_model.specs.Laws.{EachStepPrints};
-ghost use Rattle.mt_model.specs.Request.{LineTooLong};
+ghost use Rattle.mt_model.specs.Request.{Overlong};
 ghost use Rattle.mt_model.specs.Run.{Rules};
 ghost use Rattle.mt_model.specs.Service.{Service};
 ghost use Rattle.mt_model.specs.Step.{refused};
@@ -45,10 +45,10 @@ pub(crate) trait Engine {
         ensures beneath { M.beneath machine.old machine.new };
 
     /// A line that is too long says so.
-    ghost says_too_long: { rules.says TooLong LineTooLong };
+    ghost says_too_long: { rules.says TooLong Overlong };
 
     /// Such a line is refused.
-    ghost refuses_too_long: { (service : Service) → rules.step service LineTooLong ≡ refused service code.LineTooLong };
+    ghost refuses_too_long: { (service : Service) → rules.step service Overlong ≡ refused service code.LineTooLong };
 
     /// Each reply of a step prints something.
     ghost prints: { EachStepPrints rules };

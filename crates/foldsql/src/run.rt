@@ -3,7 +3,7 @@ ghost use Rattle.mt_machine.specs.Keeps.{Keeps};
 ghost use Rattle.mt_model.specs.Service.{Service};
 ghost use Rattle.foldsql.specs.Serves.{KeepsAreas, Serves};
 ghost use Rattle.foldsql.specs.Status.{last_line};
-ghost use Rattle.foldsql.specs.Turns.{AnswersInput, Counts, FinishCounts, Finishes, HasCause, MachineCounts};
+ghost use Rattle.foldsql.specs.Turns.{AnswersInput, Counts, FinishCounts, Finishes, HasStatusCause, MachineCounts};
 ghost use Rattle.foldsql.specs.declared.status.Status.{Status};
 
 use crate::engine::Engine;
@@ -26,7 +26,7 @@ pub(crate) fn run<E: Engine, M: Machine, S: Source>(
     requires { (first : Service) × Keeps (E.holds engine.old first) (E.may_leave engine.old) (M.meaning machine.old) }
     ensures serves { (first : Service) → Keeps (E.holds engine.old first) (E.may_leave engine.old) (M.meaning machine.old)
         → Serves E.rules E.laid first result (M.meaning machine.old) (M.meaning machine.new) (S.supply source.old) (S.supply source.new) }
-    ensures cause { HasCause result (M.meaning machine.old) (M.meaning machine.new) (S.supply source.old) (S.supply source.new) }
+    ensures cause { HasStatusCause result (M.meaning machine.old) (M.meaning machine.new) (S.supply source.old) (S.supply source.new) }
     ensures areas { IsTrue E.leaves_disk → KeepsAreas (M.meaning machine.old) (M.meaning machine.new) }
     ensures alone { IsTrue E.leaves_disk → result ≢ Status.DiskFault }
     ensures beneath { M.beneath machine.old machine.new }

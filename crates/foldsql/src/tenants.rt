@@ -37,13 +37,13 @@ impl Engine for Tenants {
     ghost use Rattle.mt_model.specs.FirstPath.{first_path};
     ghost use Rattle.mt_model.specs.Prints.{first_path_prints};
     ghost use Rattle.foldsql.specs.Moments.{on_any_disk};
-    ghost use Rattle.foldsql.specs.Tenants.{service_of};
+    ghost use Rattle.foldsql.specs.Tenants.{service_with_quotas};
 
     ghost rules = { first_path };
 
     ghost laid = { on_any_disk };
 
-    ghost holds = { λ tenants service _. service ≡ service_of tenants };
+    ghost holds = { λ tenants service _. service ≡ service_with_quotas tenants };
 
     ghost may_leave = { λ _ _ _. Unit {0} };
 
@@ -68,11 +68,11 @@ impl Tenants {
     ghost use Rattle.mt_model.specs.Request.{Request};
     ghost use Rattle.mt_model.specs.Run.{Answers};
     ghost use Rattle.mt_model.specs.Service.{empty_service};
-    ghost use Rattle.foldsql.specs.Tenants.{service_of, Creates};
+    ghost use Rattle.foldsql.specs.Tenants.{service_with_quotas, Creates};
 
     // No tenant.
     pub(crate) fn new(alloc: Global) -> Tenants
-        ensures { service_of result ≡ empty_service }
+        ensures { service_with_quotas result ≡ empty_service }
     {
         Tenants {
             alloc,
@@ -83,7 +83,7 @@ impl Tenants {
 
     // Answers a line that is not too long and not silent.
     fn answer(&mut self, line: &[u8]) -> Reply
-        ensures { (request : Request) × Answers first_path (service_of self.old) (Text line.now) request result (service_of self.new) }
+        ensures { (request : Request) × Answers first_path (service_with_quotas self.old) (Text line.now) request result (service_with_quotas self.new) }
     {
         match create_tenant(line) {
             Some((tenant, quota)) => self.create(tenant, quota),

@@ -4,7 +4,8 @@ use Rattle.std.specs.Prelude.{codes}
 use Rattle.mt_lexer.specs.declared.token.Symbol.TheVariants as symbol
 use Rattle.mt_lexer.specs.Tokens.{Lexeme, Word, Sign}
 use Rattle.mt_tree.specs.declared.command.Def.{Def}
-use Rattle.mt_reader.specs.Descent.{after, is_reserved_name, names_of}
+use Rattle.mt_reader.specs.Descent.{after, names_of}
+use Rattle.mt_lexer.specs.Reserved.{is_reserved_name}
 use Rattle.mt_reader.specs.Forms.{Commas, MaybeList, Parts}
 use Rattle.mt_reader.specs.Fronts.{Begins}
 use Rattle.mt_lexer.specs.Reserved.{reserved}

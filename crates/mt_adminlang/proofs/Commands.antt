@@ -10,19 +10,19 @@ use Rattle.mt_reader.specs.Fronts.{Begins}
 use Rattle.mt_reader.proofs.Shrinking.{bind_some, same_tree, same_rest}
 use Rattle.mt_reader.proofs.Spelling.{IsSound, after_is, name_is, number_is}
 use Rattle.mt_adminlang.specs.Command.{SpellsExtensionDef}
-use Rattle.mt_adminlang.specs.Descent.{extension_def_of, body_of, table_of, extension_of, tenant_of, create_of, fold_of, extend_of, set_quota_of, advise_of, show_fold_of, refold_of, step_of, plain_command_of}
+use Rattle.mt_adminlang.specs.Descent.{extension_def_of, body_of, create_table_of, extension_of, tenant_of, create_of, fold_of, extend_of, set_quota_of, advise_of, show_fold_of, refold_of, step_of, plain_command_of}
 use Rattle.mt_adminlang.specs.Plain.{SpellsPlainCommand}
 use Rattle.mt_adminlang.proofs.Bodies.{body_sound}
 use Rattle.mt_adminlang.proofs.Definitions.{extension_def_sound}
-use Rattle.mt_adminlang.proofs.Eithers.{either_some}
+use Rattle.mt_reader.proofs.Eithers.{either_some}
 use Rattle.mt_adminlang.proofs.Folds.{fold_sound}
 
 module _ (lexemes left rest : List Lexeme) (command : AdminCmd) where
   -- creations
 
   -- what is read behind CREATE TABLE is spelled so
-  table_sound : lexemes ≡ Word (codes "create") ∷ Word (codes "table") ∷ left → table_of left ≡ Some (command, rest) → Begins SpellsPlainCommand lexemes rest command
-  unfolding table_of
+  table_sound : lexemes ≡ Word (codes "create") ∷ Word (codes "table") ∷ left → create_table_of left ≡ Some (command, rest) → Begins SpellsPlainCommand lexemes rest command
+  unfolding create_table_of
   table_sound h e =
       let a = bind_some (name_of left) _ (command, rest) e in
       let b = bind_some (after (Sign symbol.Open) a.0.1) _ (command, rest) a.2 in
@@ -198,7 +198,7 @@ module _ (lexemes left rest : List Lexeme) (command : AdminCmd) where
 create_sound : (lexemes left rest : List Lexeme) (command : AdminCmd) → lexemes ≡ Word (codes "create") ∷ left → create_of left ≡ Some (command, rest) → Begins SpellsPlainCommand lexemes rest command
 unfolding create_of
 create_sound lexemes left rest command h e =
-    either_some (after (Word (codes "table")) left) table_of _ (command, rest) (λ mid a e. table_sound lexemes mid rest command (behind mid a) e)
+    either_some (after (Word (codes "table")) left) create_table_of _ (command, rest) (λ mid a e. table_sound lexemes mid rest command (behind mid a) e)
     (λ e. either_some (after (Word (codes "extension")) left) extension_of _ (command, rest) (λ mid a e. extension_sound lexemes mid rest command (behind mid a) e)
     (λ e. let p = bind_some (after (Word (codes "tenant")) left) tenant_of (command, rest) e in tenant_sound lexemes p.0 rest command (behind p.0 p.1) p.2) e) e where
       behind : {word : Lexeme} → (mid : List Lexeme) → after word left ≡ Some mid → lexemes ≡ Word (codes "create") ∷ word ∷ mid

@@ -6,7 +6,8 @@ use Rattle.mt_lexer.specs.Tokens.{Lexeme, Word, Number, Sign}
 use Rattle.mt_tree.specs.declared.command.Def.{Def}
 use Rattle.mt_tree.specs.declared.command.DefKind.{DefKind}
 use Rattle.mt_tree.specs.declared.command.DefKind.TheVariants.{Integer, Varchar}
-use Rattle.mt_reader.specs.Descent.{after, name_of, number_of, is_reserved_name, names_of}
+use Rattle.mt_reader.specs.Descent.{after, name_of, number_of, names_of}
+use Rattle.mt_lexer.specs.Reserved.{is_reserved_name}
 use Rattle.mt_reader.specs.Forms.{Flag}
 use Rattle.mt_reader.specs.Fronts.{Begins}
 use Rattle.mt_reader.specs.Names.{IsName, SpellsNames}

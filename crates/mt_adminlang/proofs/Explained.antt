@@ -12,14 +12,15 @@ use Rattle.mt_reader.specs.Fronts.{AtEnd, Begins}
 use Rattle.mt_reader.proofs.Shrinking.{bind_some, same_tree, same_rest}
 use Rattle.mt_reader.proofs.Spelling.{IsSound, IsCompleteBefore, after_is, number_is, ended_sound, ended_complete}
 use Rattle.mt_reader.specs.Descent.{ended}
-use Rattle.mt_query.specs.Descent.{select_of}
-use Rattle.mt_query.proofs.Selects.{select_sound, select_follows}
+use Rattle.mt_statements.specs.QueryDescent.{select_of}
+use Rattle.mt_statements.proofs.Selects.{select_sound, select_follows}
 use Rattle.mt_adminlang.specs.Command.{SpellsCommand}
-use Rattle.mt_adminlang.specs.Descent.{either, explain_of, plain_command_of, command_of}
+use Rattle.mt_adminlang.specs.Descent.{explain_of, plain_command_of, command_of}
+use Rattle.mt_reader.specs.Descent.{either}
 use Rattle.mt_adminlang.specs.Plain.{SpellsPlainCommand}
 use Rattle.mt_adminlang.proofs.Commands.{plain_command_sound}
 use Rattle.mt_adminlang.proofs.Follow.{plain_command_follows, plain_begins}
-use Rattle.mt_adminlang.proofs.Eithers.{either_some}
+use Rattle.mt_reader.proofs.Eithers.{either_some}
 
 -- a command that is no EXPLAIN is a command
 plain_is : (tokens : List Lexeme) (command : AdminCmd) → SpellsPlainCommand tokens command → SpellsCommand tokens command

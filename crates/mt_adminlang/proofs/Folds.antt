@@ -13,9 +13,10 @@ use Rattle.mt_reader.proofs.Fronts.{none_after}
 use Rattle.mt_reader.proofs.Shrinking.{bind_some, same_tree, same_rest}
 use Rattle.mt_reader.proofs.Spelling.{IsSound, IsComplete, IsCompleteBefore, Shrinks, after_is, after_same, separated_sound, separated_complete, sound_shrinks}
 use Rattle.mt_adminlang.specs.Command.{IsShape, SpellsChunk, SpellsChunks, SpellsConv, SpellsFold}
-use Rattle.mt_adminlang.specs.Descent.{either, shape_behind, shape_of, chunk_of, chunks_of, more_chunks_of, conv_of, chunks_alone_of, fold_of}
+use Rattle.mt_adminlang.specs.Descent.{shape_behind, shape_of, chunk_of, chunks_of, more_chunks_of, conv_of, chunks_alone_of, fold_of}
+use Rattle.mt_reader.specs.Descent.{either}
 use Rattle.mt_adminlang.proofs.Definitions.{names_sound, names_complete}
-use Rattle.mt_adminlang.proofs.Eithers.{either_some}
+use Rattle.mt_reader.proofs.Eithers.{either_some}
 
 -- shapes
 

@@ -7,13 +7,14 @@ use Rattle.mt_tree.specs.declared.command.AdminCmd.{AdminCmd}
 use Rattle.mt_tree.specs.declared.command.AdminCmd.TheVariants.{CreateTable, CreateExtension, CreateTenant, Extend, SetQuota, Advise, ShowFold, Refold, Step, Explain}
 use Rattle.mt_tree.specs.declared.command.Def.{Def}
 use Rattle.mt_tree.specs.declared.command.FoldText.{FoldText}
-use Rattle.mt_reader.specs.Descent.{after, name_of, number_of, separated_of, is_reserved_name, bracketed_of}
+use Rattle.mt_reader.specs.Descent.{after, name_of, number_of, separated_of, bracketed_of}
+use Rattle.mt_lexer.specs.Reserved.{is_reserved_name}
 use Rattle.mt_reader.proofs.Bracketing.{items_in_brackets_complete}
 use Rattle.mt_reader.specs.Fronts.{AtEnd}
 use Rattle.mt_reader.proofs.Spelling.{IsCompleteBefore}
 use Rattle.mt_adminlang.specs.declared.create.TableBody.{TableBody}
 use Rattle.mt_adminlang.specs.Command.{SpellsExtensionDef}
-use Rattle.mt_adminlang.specs.Descent.{extension_def_of, body_of, table_of, extension_of, tenant_of, create_of, fold_of, extend_of, set_quota_of, advise_of, show_fold_of, refold_of, step_of, plain_command_of}
+use Rattle.mt_adminlang.specs.Descent.{extension_def_of, body_of, create_table_of, extension_of, tenant_of, create_of, fold_of, extend_of, set_quota_of, advise_of, show_fold_of, refold_of, step_of, plain_command_of}
 use Rattle.mt_adminlang.specs.Plain.{SpellsPlainCommand}
 use Rattle.mt_adminlang.proofs.Bodies.{body_complete}
 use Rattle.mt_adminlang.proofs.Definitions.{extension_def_complete, extension_def_shrinks}
@@ -26,7 +27,7 @@ no_comma_end more end = elim end [ inl e ↦ rw e refl | inr e ↦ rw e refl ]
 
 -- a CREATE TABLE by its parts is read
 table_read : (name : List ℕ) (inner more : List Lexeme) (body : TableBody) → is_reserved_name name ≡ false → body_of inner ≡ Some (body, Sign symbol.Close ∷ more) → plain_command_of (Word (codes "create") ∷ Word (codes "table") ∷ Word name ∷ Sign symbol.Open ∷ inner) ≡ Some (CreateTable name body.columns body.key, more)
-unfolding plain_command_of create_of table_of after name_of
+unfolding plain_command_of create_of create_table_of after name_of
 table_read name inner more body free read = rw (free, read) refl
 
 -- a CREATE EXTENSION by its parts is read

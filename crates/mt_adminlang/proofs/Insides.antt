@@ -6,8 +6,8 @@ use Rattle.mt_tree.specs.declared.command.DefKind.{DefKind}
 use Rattle.mt_tree.specs.declared.command.DefKind.TheVariants.{Integer, Varchar}
 use Rattle.mt_reader.specs.Literals.{limit_64}
 use Rattle.mt_reader.proofs.Decided.{OrNot, all_or_not, both_or_not, below_or_not}
-use Rattle.mt_query.specs.Inside.{IsNumberInside}
-use Rattle.mt_query.proofs.Decided.{select_or_not}
+use Rattle.mt_statements.specs.QueryInside.{IsNumberInside}
+use Rattle.mt_statements.proofs.Decided.{select_or_not}
 use Rattle.mt_adminlang.specs.Inside.{IsKindInside, IsDefInside, IsCommandInside}
 
 -- a number

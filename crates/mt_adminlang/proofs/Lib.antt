@@ -1,7 +1,6 @@
 pub mod Bodies
 pub mod Commands
 pub mod Definitions
-pub mod Eithers
 pub mod Folds
 pub mod Follow
 pub mod Loops

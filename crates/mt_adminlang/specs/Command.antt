@@ -11,7 +11,7 @@ use Rattle.mt_tree.specs.declared.command.FoldText.{FoldText}
 use Rattle.mt_tree.specs.declared.command.ChunkText.{ChunkText}
 use Rattle.mt_reader.specs.Forms.{Commas, Bracketed, Behind, Parts, MaybeList, Flag, word}
 use Rattle.mt_reader.specs.Names.{IsName, SpellsNames}
-use Rattle.mt_query.specs.Query.{SpellsSelect}
+use Rattle.mt_statements.specs.Query.{SpellsSelect}
 
 -- INTEGER | VARCHAR '(' number ')'
 abbrev pub SpellsKind : List Lexeme → DefKind → Type 0

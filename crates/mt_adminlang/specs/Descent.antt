@@ -9,14 +9,9 @@ use Rattle.mt_tree.specs.declared.command.DefKind.{DefKind}
 use Rattle.mt_tree.specs.declared.command.DefKind.TheVariants.{Integer, Varchar}
 use Rattle.mt_tree.specs.declared.command.FoldText.{FoldText}
 use Rattle.mt_tree.specs.declared.command.ChunkText.{ChunkText}
-use Rattle.mt_reader.specs.Descent.{◌>>=◌, after, name_of, number_of, separated_of, bracketed_of, names_of}
-use Rattle.mt_query.specs.Descent.{select_of}
+use Rattle.mt_reader.specs.Descent.{◌>>=◌, after, name_of, number_of, separated_of, bracketed_of, names_of, either}
+use Rattle.mt_statements.specs.QueryDescent.{select_of}
 use Rattle.mt_adminlang.specs.declared.create.TableBody.{TableBody}
-
--- what reads behind a word, where the word is there, and else the other
-abbrev pub either : {X : Type 0} → Option (List Lexeme) → (List Lexeme → Option X) → Option X → Option X
-either None read other = other
-either (Some rest) read other = read rest
 
 -- columns
 
@@ -106,8 +101,8 @@ unfoldable pub body_of : List Lexeme → Option (TableBody × List Lexeme)
 body_of lexemes = columns_of (length lexemes) lexemes
 
 -- behind CREATE TABLE
-unfoldable pub table_of : List Lexeme → Option (AdminCmd × List Lexeme)
-table_of lexemes = do
+unfoldable pub create_table_of : List Lexeme → Option (AdminCmd × List Lexeme)
+create_table_of lexemes = do
   name ← name_of lexemes
   open_ ← after (Sign symbol.Open) name.1
   body ← body_of open_
@@ -139,7 +134,7 @@ other_create_of lexemes = do
 
 -- behind CREATE
 unfoldable pub create_of : List Lexeme → Option (AdminCmd × List Lexeme)
-create_of lexemes = either (after (Word (codes "table")) lexemes) table_of (either (after (Word (codes "extension")) lexemes) extension_of (other_create_of lexemes))
+create_of lexemes = either (after (Word (codes "table")) lexemes) create_table_of (either (after (Word (codes "extension")) lexemes) extension_of (other_create_of lexemes))
 
 -- folds
 

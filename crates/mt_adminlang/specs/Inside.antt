@@ -5,7 +5,7 @@ use Rattle.mt_tree.specs.declared.command.AdminCmd.TheVariants.{CreateTable, Cre
 use Rattle.mt_tree.specs.declared.command.Def.{Def}
 use Rattle.mt_tree.specs.declared.command.DefKind.{DefKind}
 use Rattle.mt_tree.specs.declared.command.DefKind.TheVariants.{Integer, Varchar}
-use Rattle.mt_query.specs.Inside.{IsNumberInside, IsSelectInside}
+use Rattle.mt_statements.specs.QueryInside.{IsNumberInside, IsSelectInside}
 
 -- the size of a VARCHAR
 abbrev pub IsKindInside : DefKind → Type 0

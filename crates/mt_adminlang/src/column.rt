@@ -1,16 +1,16 @@
-ghost use Rattle.mt_reader.specs.Taken.{Takes, TakesInside};
+ghost use Rattle.mt_reader.specs.Taken.{TakesExactly, TakesInside};
 ghost use Rattle.mt_adminlang.specs.Descent.{varchar_of, kind_of, not_null_of, def_of, extension_def_of};
 ghost use Rattle.mt_adminlang.specs.Inside.{IsKindInside, IsDefInside};
 
 use mt_lexer::Symbol;
-use mt_reader::{Item, ReadFault, Reader, size_of};
+use mt_reader::{Production, ReadFault, Reader, size_of};
 use mt_tree::{Def, DefKind};
 use std::alloc::Global;
 
 /// The definition of a column of a table, as an item of a list.
 pub(crate) enum DefForm {}
 
-impl Item for DefForm {
+impl Production for DefForm {
     ghost use Rattle.mt_adminlang.specs.Descent.{def_of};
     ghost use Rattle.mt_adminlang.specs.Inside.{IsDefInside};
 
@@ -28,7 +28,7 @@ impl Item for DefForm {
 /// The definition of a column of an extension, where NOT NULL may not stand, as an item of a list.
 pub(crate) enum ExtensionDefForm {}
 
-impl Item for ExtensionDefForm {
+impl Production for ExtensionDefForm {
     ghost use Rattle.mt_adminlang.specs.Descent.{extension_def_of};
     ghost use Rattle.mt_adminlang.specs.Inside.{IsDefInside};
 
@@ -43,7 +43,7 @@ impl Item for ExtensionDefForm {
     }
 }
 
-/// Takes a column of a table; `None` is for a number outside 64 bits, here and below.
+/// TakesExactly a column of a table; `None` is for a number outside 64 bits, here and below.
 #[tactic(auto, unfolding(crate::specs::Descent::def_of))]
 fn definition(alloc: Global, reader: &mut Reader<'_>) -> Result<Option<Def>, ReadFault>
     ensures { TakesInside IsDefInside result reader.new (def_of reader.old) }
@@ -61,7 +61,7 @@ fn definition(alloc: Global, reader: &mut Reader<'_>) -> Result<Option<Def>, Rea
     }
 }
 
-/// Takes a column of an extension.
+/// TakesExactly a column of an extension.
 #[tactic(auto, unfolding(crate::specs::Descent::extension_def_of))]
 fn extension_definition(alloc: Global, reader: &mut Reader<'_>) -> Result<Option<Def>, ReadFault>
     ensures { TakesInside IsDefInside result reader.new (extension_def_of reader.old) }
@@ -78,7 +78,7 @@ fn extension_definition(alloc: Global, reader: &mut Reader<'_>) -> Result<Option
     }
 }
 
-/// Takes the kind of a column.
+/// TakesExactly the kind of a column.
 #[tactic(auto, unfolding(crate::specs::Descent::kind_of))]
 fn kind(reader: &mut Reader<'_>) -> Result<Option<DefKind>, ReadFault>
     ensures { TakesInside IsKindInside result reader.new (kind_of reader.old) }
@@ -90,7 +90,7 @@ fn kind(reader: &mut Reader<'_>) -> Result<Option<DefKind>, ReadFault>
     varchar(reader)
 }
 
-/// Takes the size of a VARCHAR.
+/// TakesExactly the size of a VARCHAR.
 #[tactic(auto, unfolding(crate::specs::Descent::varchar_of))]
 fn varchar(reader: &mut Reader<'_>) -> Result<Option<DefKind>, ReadFault>
     ensures { TakesInside IsKindInside result reader.new (varchar_of reader.old) }
@@ -101,10 +101,10 @@ fn varchar(reader: &mut Reader<'_>) -> Result<Option<DefKind>, ReadFault>
     Ok(size.map(DefKind::Varchar))
 }
 
-/// Takes NOT NULL, if NOT comes next.
+/// TakesExactly NOT NULL, if NOT comes next.
 #[tactic(auto, unfolding(crate::specs::Descent::not_null_of))]
 fn not_null(reader: &mut Reader<'_>) -> Result<bool, ReadFault>
-    ensures { Takes result (λ flag. (flag, reader.new)) (not_null_of reader.old) }
+    ensures { TakesExactly result (λ flag. (flag, reader.new)) (not_null_of reader.old) }
 {
     if !reader.takes_word(b"not") {
         return Ok(false);

@@ -1,14 +1,14 @@
 ghost use Rattle.std.specs.Prelude.{◌≡◌, option_map};
-ghost use Rattle.mt_reader.specs.Taken.{Takes, TakesInside};
+ghost use Rattle.mt_reader.specs.Taken.{TakesExactly, TakesInside};
 ghost use Rattle.mt_adminlang.specs.Body.{IsBodyInside};
-ghost use Rattle.mt_adminlang.specs.Descent.{next_of, body_of, table_of, extension_of, tenant_of, create_of};
+ghost use Rattle.mt_adminlang.specs.Descent.{next_of, body_of, create_table_of, extension_of, tenant_of, create_of};
 ghost use Rattle.mt_adminlang.specs.Inside.{IsCommandInside};
 
 use crate::column::{DefForm, ExtensionDefForm};
 use crate::names::names;
 use mt_lexer::Symbol;
 use mt_list::List;
-use mt_reader::{Item, ReadFault, Reader, bracketed, pushed, size_of};
+use mt_reader::{Production, ReadFault, Reader, bracketed, pushed, size_of};
 use mt_tree::{AdminCmd, Def, Names};
 use std::alloc::Global;
 
@@ -19,7 +19,7 @@ pub(crate) struct TableBody {
     key: Names,
 }
 
-/// Takes what stands behind CREATE; `None` is for a number outside 64 bits, here and below.
+/// TakesExactly what stands behind CREATE; `None` is for a number outside 64 bits, here and below.
 #[tactic(auto, unfolding(crate::specs::Descent::create_of))]
 pub(crate) fn create(alloc: Global, reader: &mut Reader<'_>) -> Result<Option<AdminCmd>, ReadFault>
     ensures { TakesInside IsCommandInside result reader.new (create_of reader.old) }
@@ -34,10 +34,10 @@ pub(crate) fn create(alloc: Global, reader: &mut Reader<'_>) -> Result<Option<Ad
     tenant(reader)
 }
 
-/// Takes what stands behind CREATE TABLE.
-#[tactic(auto, unfolding(crate::specs::Descent::table_of))]
+/// TakesExactly what stands behind CREATE TABLE.
+#[tactic(auto, unfolding(crate::specs::Descent::create_table_of))]
 fn table(alloc: Global, reader: &mut Reader<'_>) -> Result<Option<AdminCmd>, ReadFault>
-    ensures { TakesInside IsCommandInside result reader.new (table_of reader.old) }
+    ensures { TakesInside IsCommandInside result reader.new (create_table_of reader.old) }
 {
     let name = reader.name(alloc)?;
     reader.symbol(Symbol::Open)?;
@@ -53,7 +53,7 @@ fn table(alloc: Global, reader: &mut Reader<'_>) -> Result<Option<AdminCmd>, Rea
     }
 }
 
-/// Takes the columns of a table, and the key behind them if there is one.
+/// TakesExactly the columns of a table, and the key behind them if there is one.
 fn body(alloc: Global, reader: &mut Reader<'_>) -> Result<Option<TableBody>, ReadFault>
     ensures { TakesInside IsBodyInside result reader.new (body_of reader.old) }
 {
@@ -67,11 +67,11 @@ fn body(alloc: Global, reader: &mut Reader<'_>) -> Result<Option<TableBody>, Rea
     }
 }
 
-/// Takes what stands behind a column: the key, where PRIMARY stands behind a comma, and a key of no
+/// TakesExactly what stands behind a column: the key, where PRIMARY stands behind a comma, and a key of no
 /// names where no comma comes. `None` is a comma in front of another column.
 #[tactic(auto, unfolding(crate::specs::Descent::next_of))]
 fn behind_column(alloc: Global, reader: &mut Reader<'_>) -> Result<Option<Names>, ReadFault>
-    ensures { Takes result (λ next. (next, reader.new)) (next_of reader.old) }
+    ensures { TakesExactly result (λ next. (next, reader.new)) (next_of reader.old) }
 {
     if !reader.takes_symbol(Symbol::Comma) {
         return Ok(Some(List::new(alloc)));
@@ -93,7 +93,7 @@ fn with_key(columns: Option<List<Def>>, key: Names) -> Option<TableBody>
     })
 }
 
-/// Takes what stands behind CREATE EXTENSION.
+/// TakesExactly what stands behind CREATE EXTENSION.
 #[tactic(auto, unfolding(crate::specs::Descent::extension_of))]
 fn extension(alloc: Global, reader: &mut Reader<'_>) -> Result<Option<AdminCmd>, ReadFault>
     ensures { TakesInside IsCommandInside result reader.new (extension_of reader.old) }
@@ -112,7 +112,7 @@ fn extension(alloc: Global, reader: &mut Reader<'_>) -> Result<Option<AdminCmd>,
     }
 }
 
-/// Takes what stands behind CREATE TENANT.
+/// TakesExactly what stands behind CREATE TENANT.
 #[tactic(auto, unfolding(crate::specs::Descent::tenant_of))]
 fn tenant(reader: &mut Reader<'_>) -> Result<Option<AdminCmd>, ReadFault>
     ensures { TakesInside IsCommandInside result reader.new (tenant_of reader.old) }

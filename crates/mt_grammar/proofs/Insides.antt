@@ -6,8 +6,8 @@ use Rattle.mt_reader.specs.Literals.{IsLiteralInside}
 use Rattle.mt_reader.proofs.Decided.{OrNot, all_or_not, both_or_not, some_or_not, literal_or_not}
 use Rattle.mt_terms.specs.Inside.{IsCondInside}
 use Rattle.mt_terms.proofs.Decided.{expr_or_not, cond_or_not}
-use Rattle.mt_query.proofs.Decided.{select_or_not}
-use Rattle.mt_changes.specs.Inside.{IsTupleInside, IsSetInside, IsFilterInside}
+use Rattle.mt_statements.proofs.Decided.{select_or_not}
+use Rattle.mt_statements.specs.ChangeInside.{IsTupleInside, IsSetInside, IsFilterInside}
 use Rattle.mt_grammar.specs.Statement.{IsStmtInside}
 
 -- those of a filter

@@ -1,3 +1,2 @@
 pub mod Insides
-pub mod Printed
 pub mod Statements

@@ -16,13 +16,13 @@ use Rattle.mt_reader.proofs.Fronts.{keeps_map}
 use Rattle.mt_reader.proofs.Literals.{fails_bind}
 use Rattle.mt_reader.proofs.Shrinking.{bind_some, same_tree, same_rest}
 use Rattle.mt_reader.proofs.Spelling.{IsSound, IsCompleteBefore, ended_sound, ended_complete}
-use Rattle.mt_query.specs.Descent.{select_of}
-use Rattle.mt_query.specs.Inside.{IsSelectInside}
-use Rattle.mt_query.proofs.Selects.{select_sound, select_follows}
-use Rattle.mt_changes.specs.Change.{SpellsChange}
-use Rattle.mt_changes.specs.Descent.{change_of}
-use Rattle.mt_changes.specs.Inside.{IsChangeInside}
-use Rattle.mt_changes.proofs.Changes.{change_sound, change_follows, change_begins}
+use Rattle.mt_statements.specs.QueryDescent.{select_of}
+use Rattle.mt_statements.specs.QueryInside.{IsSelectInside}
+use Rattle.mt_statements.proofs.Selects.{select_sound, select_follows}
+use Rattle.mt_statements.specs.Change.{SpellsChange}
+use Rattle.mt_statements.specs.ChangeDescent.{change_of}
+use Rattle.mt_statements.specs.ChangeInside.{IsChangeInside}
+use Rattle.mt_statements.proofs.Changes.{change_sound, change_follows, change_begins}
 use Rattle.mt_grammar.specs.Descent.{selection_of, form_of, statement_of}
 use Rattle.mt_grammar.specs.Statement.{SpellsStmt, IsStmtInside}
 

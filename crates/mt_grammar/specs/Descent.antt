@@ -4,8 +4,8 @@ use Rattle.mt_lexer.specs.Tokens.{Lexeme, Word}
 use Rattle.mt_tree.specs.declared.statement.Stmt.{Stmt}
 use Rattle.mt_tree.specs.declared.statement.Stmt.TheVariants as stmt
 use Rattle.mt_reader.specs.Descent.{◌>>=◌, after, ended}
-use Rattle.mt_query.specs.Descent.{select_of}
-use Rattle.mt_changes.specs.Descent.{change_of}
+use Rattle.mt_statements.specs.QueryDescent.{select_of}
+use Rattle.mt_statements.specs.ChangeDescent.{change_of}
 
 -- a SELECT as a statement
 abbrev pub selection_of : List Lexeme → Option (Stmt × List Lexeme)

@@ -3,10 +3,10 @@ use Rattle.std.specs.Prelude.{List}
 use Rattle.mt_lexer.specs.Tokens.{Lexeme}
 use Rattle.mt_tree.specs.declared.statement.Stmt.{Stmt}
 use Rattle.mt_tree.specs.declared.statement.Stmt.TheVariants as stmt
-use Rattle.mt_query.specs.Query.{SpellsSelect}
-use Rattle.mt_query.specs.Inside.{IsSelectInside}
-use Rattle.mt_changes.specs.Change.{SpellsChange}
-use Rattle.mt_changes.specs.Inside.{IsChangeInside}
+use Rattle.mt_statements.specs.Query.{SpellsSelect}
+use Rattle.mt_statements.specs.QueryInside.{IsSelectInside}
+use Rattle.mt_statements.specs.Change.{SpellsChange}
+use Rattle.mt_statements.specs.ChangeInside.{IsChangeInside}
 
 -- select | insert | update | delete | restore | purge
 unfoldable pub SpellsStmt : List Lexeme → Stmt → Type 0

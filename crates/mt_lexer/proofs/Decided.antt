@@ -11,7 +11,7 @@ use Rattle.mt_lexer.specs.declared.token.Symbol.{Symbol}
 use Rattle.mt_lexer.specs.declared.token.TokenKind.{TokenKind}
 use Rattle.mt_lexer.specs.declared.token.Token.{Token}
 use Rattle.mt_lexer.specs.Tokens.{Lexeme, Word, Number, Quoted, Sign, IsOfKind, IsToken, IsGap, Says, HasNoTokenAt, begins_word, is_in_word, is_digit, is_blank, lower, symbol_bytes}
-use Rattle.mt_lexer.specs.Reads.{Reads, IsWordRun, symbol_of}
+use Rattle.mt_lexer.specs.FirstToken.{IsFirstToken, IsWordRun, symbol_of}
 use Rattle.mt_lexer.proofs.Runs.{run_of_all, run_up_to, run_more}
 use Rattle.mt_lexer.proofs.Reading.{word_is_run, number_is_run, word_from_run, number_from_run}
 use Rattle.mt_lexer.proofs.Quotes.{IsOpenQuote, open_first, open_more, open_twice, quoted_closed, open_at_end, quoted_begins}
@@ -35,7 +35,7 @@ run_at rest = run_from (length rest) rest 0 (omega arith) (omega arith) (λ k d 
 
 -- what is read from here on, of the lexemes that a function makes, or that nothing is
 abbrev ReadOrNot : {X : Type 0} → (X → Lexeme) → List ℕ → Type 0
-ReadOrNot {X} make rest = ((n : ℕ) × (x : X) × Reads rest n (make x)) ⊎ ((n : ℕ) (x : X) → Reads rest n (make x) → ⊥)
+ReadOrNot {X} make rest = ((n : ℕ) × (x : X) × IsFirstToken rest n (make x)) ⊎ ((n : ℕ) (x : X) → IsFirstToken rest n (make x) → ⊥)
 
 word_or_not : (rest : List ℕ) → ReadOrNot Word rest
 word_or_not rest = let (m, run) = run_at rest in by m run (cases_lt 0 m) (cases_lt 30 m) (begins_word (get_or rest 0 0)) refl
@@ -79,14 +79,14 @@ quoted_or_not rest = elim (cases_eq (get_or rest 0 0) 39) [
 
 sign_or_not : (rest : List ℕ) → ReadOrNot Sign rest
 sign_or_not rest = by (symbol_of (get_or rest 0 0) (get_or rest 1 0)) (symbol_found rest) (symbol_not_found rest) where
-  by : (o : Option Symbol) → IfSome o (λ s. Reads rest (length (symbol_bytes s)) (Sign s)) → IfNone o ((n : ℕ) (s : Symbol) → Reads rest n (Sign s) → ⊥) → ReadOrNot Sign rest
+  by : (o : Option Symbol) → IfSome o (λ s. IsFirstToken rest (length (symbol_bytes s)) (Sign s)) → IfNone o ((n : ℕ) (s : Symbol) → IsFirstToken rest n (Sign s) → ⊥) → ReadOrNot Sign rest
   by None found none = inr none
   by (Some s) found none = inl (length (symbol_bytes s), s, found)
 
 read_or_not : (rest : List ℕ) → ReadOrNot (λ lexeme. lexeme) rest
 read_or_not rest = by (word_or_not rest) (number_or_not rest) (quoted_or_not rest) (sign_or_not rest) where
-  none : ((n : ℕ) (x : List ℕ) → Reads rest n (Word x) → ⊥) → ((n x : ℕ) → Reads rest n (Number x) → ⊥) → ((n : ℕ) (x : List ℕ) → Reads rest n (Quoted x) → ⊥) → ((n : ℕ) (x : Symbol) → Reads rest n (Sign x) → ⊥) →
-      (n : ℕ) (lexeme : Lexeme) → Reads rest n lexeme → ⊥
+  none : ((n : ℕ) (x : List ℕ) → IsFirstToken rest n (Word x) → ⊥) → ((n x : ℕ) → IsFirstToken rest n (Number x) → ⊥) → ((n : ℕ) (x : List ℕ) → IsFirstToken rest n (Quoted x) → ⊥) → ((n : ℕ) (x : Symbol) → IsFirstToken rest n (Sign x) → ⊥) →
+      (n : ℕ) (lexeme : Lexeme) → IsFirstToken rest n lexeme → ⊥
   none a b c d n (Word x) r = a n x r
   none a b c d n (Number x) r = b n x r
   none a b c d n (Quoted x) r = c n x r
@@ -121,8 +121,8 @@ token_or_not text at within = by (read_or_not (drop at text)) where
   by (inl (n, l, r)) =
       let fits = read_fits text at n l within r in
       let long : at + n - at ≡ n = omega arith in
-      inl (token_at (kind_of l) at (at + n), l, refl, omega (arith, fits.0), token_from_read text (token_at (kind_of l) at (at + n)) l (omega arith) within (kind_of_is l) (subst (λ m. Reads (drop at text) m l) (sym long) r))
-  by (inr none) = inr (λ t l e h. none (t.upto - t.from) l (subst (λ place. Reads (drop place text) (t.upto - t.from) l) e (read_from_token text t l h)))
+      inl (token_at (kind_of l) at (at + n), l, refl, omega (arith, fits.0), token_from_read text (token_at (kind_of l) at (at + n)) l (omega arith) within (kind_of_is l) (subst (λ m. IsFirstToken (drop at text) m l) (sym long) r))
+  by (inr none) = inr (λ t l e h. none (t.upto - t.from) l (subst (λ place. IsFirstToken (drop place text) (t.upto - t.from) l) e (read_from_token text t l h)))
 
 -- one blank more
 gap_more : (text : List ℕ) (from at : ℕ) → IsGap text from at → at < length text → is_blank (get_or text at 0) ≡ true → IsGap text from (at + 1)

@@ -5,7 +5,7 @@ use Rattle.std.proofs.lemmas.Bool.Decides.{nat_tests}
 use Rattle.std.proofs.lemmas.List.Sums.{AllPass-from_list_all, list_all-from_AllPass}
 use Rattle.std.specs.List.{list_all, list_any}
 use Rattle.mt_lexer.specs.Tokens.{Word, Spells, is_in_word, is_upper, begins_word, lower}
-use Rattle.mt_lexer.specs.Reads.{passes_as_lower_word}
+use Rattle.mt_lexer.specs.FirstToken.{passes_as_lower_word}
 
 -- two tests that hold
 both_hold : (a b : Bool) → a ≡ true → b ≡ true → (a && b) ≡ true

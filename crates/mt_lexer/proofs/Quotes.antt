@@ -5,7 +5,7 @@ use Rattle.std.proofs.lemmas.List.{append_assoc, take_more, take_all, take-appen
 use Rattle.std.proofs.lemmas.List.Concat.{flat_map-append}
 use Rattle.mt_value.proofs.Doubling.{doubled-cons}
 use Rattle.mt_lexer.specs.Tokens.{BeginsNoWith, doubled, Quoted}
-use Rattle.mt_lexer.specs.Reads.{Reads}
+use Rattle.mt_lexer.specs.FirstToken.{IsFirstToken}
 use Rattle.mt_lexer.proofs.Runs.{BeginsNoWith_from}
 
 -- no quote stands first
@@ -92,7 +92,7 @@ doubled_is_open (x ∷ u) (y ∷ t) a e h = elim (doubled-cons x u) [
 ]
 
 -- a text in quotes, and what follows it
-pub quoted_rest : (text rest : List ℕ) (n : ℕ) → Reads rest n (Quoted text) → rest ≡ 39 ∷ (doubled text ++ 39 ∷ drop n rest)
+pub quoted_rest : (text rest : List ℕ) (n : ℕ) → IsFirstToken rest n (Quoted text) → rest ≡ 39 ∷ (doubled text ++ 39 ∷ drop n rest)
 quoted_rest text rest n r =
     sym (take-append-drop n rest) ∙ ap (λ xs. xs ++ drop n rest) r.spelling ∙ ap (λ xs. 39 ∷ xs) (append_assoc (doubled text) (39 ∷ []) (drop n rest))
 
@@ -135,7 +135,7 @@ open_twice rest n h e f o =
     }
 
 -- a quote that stands once closes the text
-pub quoted_closed : (rest : List ℕ) (n : ℕ) → n < length rest → get_or rest n 0 ≡ 39 → get_or rest (n + 1) 0 ≢ 39 → (o : IsOpenQuote rest n) → Reads rest (n + 1) (Quoted o.text)
+pub quoted_closed : (rest : List ℕ) (n : ℕ) → n < length rest → get_or rest n 0 ≡ 39 → get_or rest (n + 1) 0 ≢ 39 → (o : IsOpenQuote rest n) → IsFirstToken rest (n + 1) (Quoted o.text)
 quoted_closed rest n h e f o = record {
   within = omega arith;
   spelling = take_more rest n 0 h ∙ ap (λ xs. xs ++ get_or rest n 0 ∷ []) o.spelling ∙ ap (λ b. 39 ∷ (doubled o.text ++ b ∷ [])) e;
@@ -143,12 +143,12 @@ quoted_closed rest n h e f o = record {
 }
 
 -- a text that is open at the end is no token
-pub open_at_end : (rest : List ℕ) (n m : ℕ) (text : List ℕ) → length rest ≤ n → IsOpenQuote rest n → Reads rest m (Quoted text) → ⊥
+pub open_at_end : (rest : List ℕ) (n m : ℕ) (text : List ℕ) → length rest ≤ n → IsOpenQuote rest n → IsFirstToken rest m (Quoted text) → ⊥
 open_at_end rest n m text h o r =
     let all : rest ≡ 39 ∷ doubled o.text = sym (take_all n rest h) ∙ o.spelling in
     let whole : rest ≡ 39 ∷ (doubled text ++ 39 ∷ drop m rest) = quoted_rest text rest m r in
     doubled_is_open o.text text (drop m rest) (cc) r.ends
 
 -- what does not begin with a quote is no text in quotes
-pub quoted_begins : (rest : List ℕ) (m : ℕ) (text : List ℕ) → get_or rest 0 0 ≢ 39 → Reads rest m (Quoted text) → ⊥
+pub quoted_begins : (rest : List ℕ) (m : ℕ) (text : List ℕ) → get_or rest 0 0 ≢ 39 → IsFirstToken rest m (Quoted text) → ⊥
 quoted_begins rest m text h r = h (ap (λ xs. get_or xs 0 0) (quoted_rest text rest m r))

@@ -8,7 +8,7 @@ use Rattle.std.specs.Str.Parse.{digits_value}
 use Rattle.mt_lexer.specs.declared.token.Symbol.{Symbol}
 use Rattle.mt_lexer.specs.declared.token.Symbol.TheVariants as symbol
 use Rattle.mt_lexer.specs.Tokens.{Lexeme, Word, Number, Quoted, Sign, Spells, begins_word, is_in_word, is_digit, is_upper, is_lower, is_blank, lower, doubled, symbol_bytes}
-use Rattle.mt_lexer.specs.Reads.{Reads, IsWordRun}
+use Rattle.mt_lexer.specs.FirstToken.{IsFirstToken, IsWordRun}
 use Rattle.mt_lexer.proofs.Runs.{run_length_unique}
 use Rattle.mt_lexer.proofs.Quotes.{quoted_unique, quoted_rest}
 use Rattle.mt_lexer.proofs.Signs.{StandsAt, stands_where_read, symbol_read}
@@ -100,7 +100,7 @@ first_taken (x ∷ xs) zero h = absurd (omega arith)
 first_taken (x ∷ xs) (suc n) h = refl
 
 -- a token has a byte, and the first one tells its kind
-pub begins_at_read : (l : Lexeme) (rest : List ℕ) (n : ℕ) → Reads rest n l → (0 < n) × BeginsAt l (get_or rest 0 0)
+pub begins_at_read : (l : Lexeme) (rest : List ℕ) (n : ℕ) → IsFirstToken rest n l → (0 < n) × BeginsAt l (get_or rest 0 0)
 begins_at_read (Word name) rest n r =
     let w = word_from_spells (take n rest) name r.spelling in
     (omega (arith, length-take-le n rest r.within, w.long), word_byte _ (ap begins_word (sym (first_taken rest n w.long)) ∙ w.first))
@@ -118,7 +118,7 @@ in_word_from_digit : (b : ℕ) → is_digit b ≡ true → is_in_word b ≡ true
 in_word_from_digit b h = or_right (begins_word b) (is_digit b) h
 
 -- one word at a place
-same_word : (name other : List ℕ) (rest : List ℕ) (n m : ℕ) → Reads rest n (Word name) → Reads rest m (Word other) → (n ≡ m) × (Word name ≡ Word other)
+same_word : (name other : List ℕ) (rest : List ℕ) (n m : ℕ) → IsFirstToken rest n (Word name) → IsFirstToken rest m (Word other) → (n ≡ m) × (Word name ≡ Word other)
 same_word name other rest n m r s =
     let v = word_from_spells (take n rest) name r.spelling in
     let w = word_from_spells (take m rest) other s.spelling in
@@ -126,7 +126,7 @@ same_word name other rest n m r s =
     (e, ap Word (v.lowered ∙ ap (λ k. map lower (take k rest)) e ∙ sym w.lowered))
 
 -- one number at a place
-same_number : (value other : ℕ) (rest : List ℕ) (n m : ℕ) → Reads rest n (Number value) → Reads rest m (Number other) → (n ≡ m) × (Number value ≡ Number other)
+same_number : (value other : ℕ) (rest : List ℕ) (n m : ℕ) → IsFirstToken rest n (Number value) → IsFirstToken rest m (Number other) → (n ≡ m) × (Number value ≡ Number other)
 same_number value other rest n m r s =
     let P : ℕ → Type 0 = λ b. is_digit b ≡ true in
     let Q : ℕ → Type 0 = λ b. is_in_word b ≡ true in
@@ -136,7 +136,7 @@ same_number value other rest n m r s =
     (e, ap Number (r.spelling.2 ∙ ap (λ k. digits_value 10 (take k rest)) e ∙ sym s.spelling.2))
 
 -- one text at a place
-same_quoted : (text other : List ℕ) (rest : List ℕ) (n m : ℕ) → Reads rest n (Quoted text) → Reads rest m (Quoted other) → (n ≡ m) × (Quoted text ≡ Quoted other)
+same_quoted : (text other : List ℕ) (rest : List ℕ) (n m : ℕ) → IsFirstToken rest n (Quoted text) → IsFirstToken rest m (Quoted other) → (n ≡ m) × (Quoted text ≡ Quoted other)
 same_quoted text other rest n m r s =
     let both : 39 ∷ (doubled text ++ 39 ∷ drop n rest) ≡ 39 ∷ (doubled other ++ 39 ∷ drop m rest) = sym (quoted_rest text rest n r) ∙ quoted_rest other rest m s in
     let q = quoted_unique text other (drop n rest) (drop m rest) (cc) r.ends s.ends in
@@ -144,7 +144,7 @@ same_quoted text other rest n m r s =
     (omega (arith, length-drop n rest, length-drop m rest, r.within, s.within), ap Quoted q.0)
 
 -- one symbol at a place
-same_sign : (sign other : Symbol) (rest : List ℕ) (n m : ℕ) → Reads rest n (Sign sign) → Reads rest m (Sign other) → (n ≡ m) × (Sign sign ≡ Sign other)
+same_sign : (sign other : Symbol) (rest : List ℕ) (n m : ℕ) → IsFirstToken rest n (Sign sign) → IsFirstToken rest m (Sign other) → (n ≡ m) × (Sign sign ≡ Sign other)
 same_sign sign other rest n m r s =
     let v = symbol_read sign rest n r in
     let w = symbol_read other rest m s in
@@ -152,9 +152,9 @@ same_sign sign other rest n m r s =
     (v.1 ∙ ap (λ x. length (symbol_bytes x)) e ∙ sym w.1, ap Sign e)
 
 -- one place is read in one way
-pub reads_unique : (l k : Lexeme) (rest : List ℕ) (n m : ℕ) → Reads rest n l → Reads rest m k → (n ≡ m) × (l ≡ k)
+pub reads_unique : (l k : Lexeme) (rest : List ℕ) (n m : ℕ) → IsFirstToken rest n l → IsFirstToken rest m k → (n ≡ m) × (l ≡ k)
 reads_unique l k rest n m r s = by_kind l k r s (begins_at_read l rest n r).1 (begins_at_read k rest m s).1 where
-  by_kind : (l k : Lexeme) → Reads rest n l → Reads rest m k → BeginsAt l (get_or rest 0 0) → BeginsAt k (get_or rest 0 0) → (n ≡ m) × (l ≡ k)
+  by_kind : (l k : Lexeme) → IsFirstToken rest n l → IsFirstToken rest m k → BeginsAt l (get_or rest 0 0) → BeginsAt k (get_or rest 0 0) → (n ≡ m) × (l ≡ k)
   by_kind (Word a) (Word b) r s f g = same_word a b rest n m r s
   by_kind (Word a) (Number b) r s f g = absurd (omega arith)
   by_kind (Word a) (Quoted b) r s f g = absurd (omega arith)
@@ -180,7 +180,7 @@ begins_at_is_not_blank (Quoted a) b h = or_from (b == 32) (b == 9) (ne_eqb b 32 
 begins_at_is_not_blank (Sign a) b h = or_from (b == 32) (b == 9) (ne_eqb b 32 (λ e. omega arith)) (ne_eqb b 9 (λ e. omega arith))
 
 -- what is read as a word is the whole run
-pub word_is_run : (rest : List ℕ) (n m : ℕ) (name : List ℕ) → IsWordRun rest n → Reads rest m (Word name) → (0 < n) × (n ≤ 30) × (begins_word (get_or rest 0 0) ≡ true)
+pub word_is_run : (rest : List ℕ) (n m : ℕ) (name : List ℕ) → IsWordRun rest n → IsFirstToken rest m (Word name) → (0 < n) × (n ≤ 30) × (begins_word (get_or rest 0 0) ≡ true)
 word_is_run rest n m name h r =
     let w = word_from_spells (take m rest) name r.spelling in
     let e = run_length_unique is_in_word refl rest n m h.within r.within h.run w.run h.ends r.ends in
@@ -188,7 +188,7 @@ word_is_run rest n m name h r =
     (omega (arith, w.long), omega (arith, w.short), ap begins_word (sym (first_taken rest m w.long)) ∙ w.first)
 
 -- a number is the whole run too
-pub number_is_run : (rest : List ℕ) (n m value : ℕ) → IsWordRun rest n → Reads rest m (Number value) → (0 < n) × AllPass is_digit (take n rest)
+pub number_is_run : (rest : List ℕ) (n m value : ℕ) → IsWordRun rest n → IsFirstToken rest m (Number value) → (0 < n) × AllPass is_digit (take n rest)
 number_is_run rest n m value h r =
     let P : ℕ → Type 0 = λ b. is_digit b ≡ true in
     let Q : ℕ → Type 0 = λ b. is_in_word b ≡ true in
@@ -203,7 +203,7 @@ spells_from_word [] a b l s = absurd (omega arith)
 spells_from_word (x ∷ xs) a b l s = (b, All-tail (λ b. is_in_word b ≡ true) x xs a, s, refl)
 
 -- a run of 30 bytes at most that a letter begins is a word
-pub word_from_run : (rest : List ℕ) (n : ℕ) → IsWordRun rest n → 0 < n → n ≤ 30 → begins_word (get_or rest 0 0) ≡ true → Reads rest n (Word (map lower (take n rest)))
+pub word_from_run : (rest : List ℕ) (n : ℕ) → IsWordRun rest n → 0 < n → n ≤ 30 → begins_word (get_or rest 0 0) ≡ true → IsFirstToken rest n (Word (map lower (take n rest)))
 word_from_run rest n h p s b =
     let l = length-take-le n rest h.within in
     let long : 0 < length (take n rest) = omega arith in
@@ -214,7 +214,7 @@ word_from_run rest n h p s b =
     }
 
 -- a run of digits is a number
-pub number_from_run : (rest : List ℕ) (n : ℕ) → IsWordRun rest n → 0 < n → AllPass is_digit (take n rest) → Reads rest n (Number (digits_value 10 (take n rest)))
+pub number_from_run : (rest : List ℕ) (n : ℕ) → IsWordRun rest n → 0 < n → AllPass is_digit (take n rest) → IsFirstToken rest n (Number (digits_value 10 (take n rest)))
 number_from_run rest n h p a =
     let l = length-take-le n rest h.within in
     record { within = h.within; spelling = (omega arith, a, refl); ends = h.ends }

@@ -5,7 +5,7 @@ use Rattle.std.proofs.lemmas.Bool.{cases_order, false≢true}
 use Rattle.std.proofs.lemmas.List.Elements.{All-more}
 use Rattle.std.specs.List.{AllPass}
 use Rattle.mt_lexer.specs.Tokens.{BeginsNoWith, is_in_word}
-use Rattle.mt_lexer.specs.Reads.{IsWordRun}
+use Rattle.mt_lexer.specs.FirstToken.{IsWordRun}
 
 -- what a list begins with stands at a place of the longer one, and past its end stands 0
 pub BeginsNoWith_at : (p : ℕ → Bool) → p 0 ≡ false → (s : List ℕ) (n : ℕ) → BeginsNoWith p (drop n s) → p (get_or s n 0) ≡ false

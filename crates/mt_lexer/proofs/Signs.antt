@@ -6,7 +6,7 @@ use Rattle.mt_lexer.specs.declared.token.Symbol.{Symbol}
 use Rattle.mt_lexer.specs.declared.token.Symbol.TheVariants as symbol
 use Rattle.mt_lexer.specs.Tokens.{Sign, symbol_bytes}
 use Rattle.mt_lexer.proofs.Runs.{BeginsNoWith_at, BeginsNoWith_from}
-use Rattle.mt_lexer.specs.Reads.{Reads, symbol_of}
+use Rattle.mt_lexer.specs.FirstToken.{IsFirstToken, symbol_of}
 
 -- these two bytes begin with the symbol, and with no longer one
 abbrev pub StandsAt : Symbol → ℕ → ℕ → Type 0
@@ -92,7 +92,7 @@ take_two (x ∷ []) b c e f = cc
 take_two (x ∷ y ∷ xs) b c e f = (cc, omega arith)
 
 -- a symbol that is read stands at the first two bytes, and takes as many as it has
-pub stands_where_read : (s : Symbol) (rest : List ℕ) (n : ℕ) → Reads rest n (Sign s) → StandsAt s (get_or rest 0 0) (get_or rest 1 0) × (n ≡ length (symbol_bytes s))
+pub stands_where_read : (s : Symbol) (rest : List ℕ) (n : ℕ) → IsFirstToken rest n (Sign s) → StandsAt s (get_or rest 0 0) (get_or rest 1 0) × (n ≡ length (symbol_bytes s))
 unfolding symbol_bytes
 stands_where_read symbol.Open rest n r = let w = one_taken rest n 40 r.spelling r.within in (w.1, w.0)
 stands_where_read symbol.Close rest n r = let w = one_taken rest n 41 r.spelling r.within in (w.1, w.0)
@@ -110,7 +110,7 @@ stands_where_read symbol.GreaterEqual rest n r = let w = two_taken rest n 62 61 
 stands_where_read symbol.Semicolon rest n r = let w = one_taken rest n 59 r.spelling r.within in (w.1, w.0)
 
 -- a symbol that stands at the first two bytes is read
-pub read_where_stands : (s : Symbol) (rest : List ℕ) → StandsAt s (get_or rest 0 0) (get_or rest 1 0) → Reads rest (length (symbol_bytes s)) (Sign s)
+pub read_where_stands : (s : Symbol) (rest : List ℕ) → StandsAt s (get_or rest 0 0) (get_or rest 1 0) → IsFirstToken rest (length (symbol_bytes s)) (Sign s)
 unfolding symbol_bytes
 read_where_stands symbol.Open rest h = let w = take_one rest 39 h in record { within = w.1; spelling = w.0; ends = tt }
 read_where_stands symbol.Close rest h = let w = take_one rest 40 h in record { within = w.1; spelling = w.0; ends = tt }
@@ -128,7 +128,7 @@ read_where_stands symbol.GreaterEqual rest h = let w = take_two rest 61 60 h.0 h
 read_where_stands symbol.Semicolon rest h = let w = take_one rest 58 h in record { within = w.1; spelling = w.0; ends = tt }
 
 -- at one place one symbol is read
-pub symbol_read : (s : Symbol) (rest : List ℕ) (n : ℕ) → Reads rest n (Sign s) → (symbol_of (get_or rest 0 0) (get_or rest 1 0) ≡ Some s) × (n ≡ length (symbol_bytes s))
+pub symbol_read : (s : Symbol) (rest : List ℕ) (n : ℕ) → IsFirstToken rest n (Sign s) → (symbol_of (get_or rest 0 0) (get_or rest 1 0) ≡ Some s) × (n ≡ length (symbol_bytes s))
 symbol_read s rest n r =
     let w = stands_where_read s rest n r in
     (symbol_of_stands s (get_or rest 0 0) (get_or rest 1 0) w.0, w.1)
@@ -157,15 +157,15 @@ one_byte symbol.GreaterEqual a b c = absurd (c refl)
 one_byte symbol.Semicolon a b c = refl
 
 -- what the first two bytes tell
-pub symbol_found : (rest : List ℕ) → IfSome (symbol_of (get_or rest 0 0) (get_or rest 1 0)) (λ s. Reads rest (length (symbol_bytes s)) (Sign s))
+pub symbol_found : (rest : List ℕ) → IfSome (symbol_of (get_or rest 0 0) (get_or rest 1 0)) (λ s. IsFirstToken rest (length (symbol_bytes s)) (Sign s))
 symbol_found rest = found (symbol_of (get_or rest 0 0) (get_or rest 1 0)) (symbol_of_is (get_or rest 0 0) (get_or rest 1 0)) where
-  found : (o : Option Symbol) → IfSome o (λ s. StandsAt s (get_or rest 0 0) (get_or rest 1 0)) → IfSome o (λ s. Reads rest (length (symbol_bytes s)) (Sign s))
+  found : (o : Option Symbol) → IfSome o (λ s. StandsAt s (get_or rest 0 0) (get_or rest 1 0)) → IfSome o (λ s. IsFirstToken rest (length (symbol_bytes s)) (Sign s))
   found None h = tt
   found (Some s) h = read_where_stands s rest h
 
 -- where they tell no symbol none stands
-pub symbol_not_found : (rest : List ℕ) → IfNone (symbol_of (get_or rest 0 0) (get_or rest 1 0)) ((n : ℕ) (s : Symbol) → Reads rest n (Sign s) → ⊥)
+pub symbol_not_found : (rest : List ℕ) → IfNone (symbol_of (get_or rest 0 0) (get_or rest 1 0)) ((n : ℕ) (s : Symbol) → IsFirstToken rest n (Sign s) → ⊥)
 symbol_not_found rest = none (symbol_of (get_or rest 0 0) (get_or rest 1 0)) (λ s n r. (symbol_read s rest n r).0) where
-  none : (o : Option Symbol) → ((s : Symbol) (n : ℕ) → Reads rest n (Sign s) → o ≡ Some s) → IfNone o ((n : ℕ) (s : Symbol) → Reads rest n (Sign s) → ⊥)
+  none : (o : Option Symbol) → ((s : Symbol) (n : ℕ) → IsFirstToken rest n (Sign s) → o ≡ Some s) → IfNone o ((n : ℕ) (s : Symbol) → IsFirstToken rest n (Sign s) → ⊥)
   none None h = λ n s r. let e : None ≡ Some s = h s n r in cc
   none (Some s) h = tt

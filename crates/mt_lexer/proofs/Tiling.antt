@@ -6,11 +6,11 @@ use Rattle.mt_lexer.specs.declared.token.TokenKind.{TokenKind}
 use Rattle.mt_lexer.specs.declared.token.TokenKind.TheVariants as kind
 use Rattle.mt_lexer.specs.declared.token.Token.{Token}
 use Rattle.mt_lexer.specs.Tokens.{Lexeme, Word, Number, Quoted, Sign, IsOfKind, IsToken, IsGap, Stand, Says, HasNoTokenAt, is_blank}
-use Rattle.mt_lexer.specs.Reads.{Reads}
+use Rattle.mt_lexer.specs.FirstToken.{IsFirstToken}
 use Rattle.mt_lexer.proofs.Reading.{reads_unique, begins_at_read, begins_at_is_not_blank, BeginsAt}
 
 -- A token at a place is what the bytes from there on are read as.
-pub read_from_token : (text : List ℕ) (t : Token) (l : Lexeme) → IsToken text t l → Reads (drop t.from text) (t.upto - t.from) l
+pub read_from_token : (text : List ℕ) (t : Token) (l : Lexeme) → IsToken text t l → IsFirstToken (drop t.from text) (t.upto - t.from) l
 read_from_token text t l h =
     let place : t.from + (t.upto - t.from) ≡ t.upto = omega (arith, h.forward) in
     record {
@@ -20,7 +20,7 @@ read_from_token text t l h =
     }
 
 -- the other way round
-pub token_from_read : (text : List ℕ) (t : Token) (l : Lexeme) → t.from ≤ t.upto → t.from ≤ length text → IsOfKind t.kind l → Reads (drop t.from text) (t.upto - t.from) l → IsToken text t l
+pub token_from_read : (text : List ℕ) (t : Token) (l : Lexeme) → t.from ≤ t.upto → t.from ≤ length text → IsOfKind t.kind l → IsFirstToken (drop t.from text) (t.upto - t.from) l → IsToken text t l
 token_from_read text t l f w k r =
     let place : t.from + (t.upto - t.from) ≡ t.upto = omega (arith, f) in
     let e = r.ends in
@@ -61,7 +61,7 @@ same_tokens t u a b c = let e : token_of t.kind t.from t.upto ≡ token_of u.kin
 pub token_unique : (text : List ℕ) (t u : Token) (l k : Lexeme) → t.from ≡ u.from → IsToken text t l → IsToken text u k → (t ≡ u) × (l ≡ k)
 token_unique text t u l k e h g =
     let r = read_from_token text t l h in
-    let s : Reads (drop t.from text) (u.upto - u.from) k = subst (λ place. Reads (drop place text) (u.upto - u.from) k) (sym e) (read_from_token text u k g) in
+    let s : IsFirstToken (drop t.from text) (u.upto - u.from) k = subst (λ place. IsFirstToken (drop place text) (u.upto - u.from) k) (sym e) (read_from_token text u k g) in
     let same = reads_unique l k (drop t.from text) (t.upto - t.from) (u.upto - u.from) r s in
     let upto : t.upto ≡ u.upto = omega (arith, h.forward, g.forward, same.0) in
     let kinds : t.kind ≡ u.kind = kind_is t.kind l h.kind ∙ ap kind_of same.1 ∙ sym (kind_is u.kind k g.kind) in
@@ -207,7 +207,7 @@ none_from_reached text ts at r h n = record {
 }
 
 -- what is read from a place on fits behind it
-pub read_fits : (text : List ℕ) (at n : ℕ) (l : Lexeme) → at ≤ length text → Reads (drop at text) n l → (0 < n) × (at + n ≤ length text)
+pub read_fits : (text : List ℕ) (at n : ℕ) (l : Lexeme) → at ≤ length text → IsFirstToken (drop at text) n l → (0 < n) × (at + n ≤ length text)
 read_fits text at n l h r =
     let b = begins_at_read l (drop at text) n r in
     (b.0, omega (arith, length-drop at text, r.within))

@@ -1,3 +1,3 @@
 pub mod Tokens
-pub mod Reads
+pub mod FirstToken
 pub mod Reserved

@@ -1,5 +1,8 @@
 -- Words that have a meaning of their own.
-use Rattle.std.specs.Prelude.{ℕ, List, [], ◌∷◌, codes}
+use Rattle.std.specs.Prelude.{◌≡◌, ℕ, Bool, false, List, [], ◌∷◌, codes}
+use Rattle.std.specs.List.{list_any}
+use Rattle.std.specs.Str.{bytes_eq}
+use Rattle.mt_lexer.specs.Tokens.{Word, Spells}
 
 -- the reserved words, which are no names
 unfoldable pub reserved : List (List ℕ)
@@ -11,3 +14,11 @@ reserved =
     ∷ codes "min" ∷ codes "not" ∷ codes "null" ∷ codes "on" ∷ codes "or" ∷ codes "order" ∷ codes "primary"
     ∷ codes "purge" ∷ codes "restore" ∷ codes "rollback" ∷ codes "select" ∷ codes "set" ∷ codes "sum"
     ∷ codes "update" ∷ codes "values" ∷ codes "varchar" ∷ codes "where" ∷ []
+
+-- whether a word in lower case is reserved
+abbrev pub is_reserved_name : List ℕ → Bool
+is_reserved_name name = list_any (bytes_eq name) reserved
+
+-- a name as trees keep it: a word that spells itself, and so is in lower case, and is not reserved
+abbrev pub IsNameText : List ℕ → Type 0
+IsNameText text = Spells text (Word text) × (is_reserved_name text ≡ false)

@@ -14,4 +14,4 @@ mod words;
 pub use laws::tokens_are_determined;
 pub use scan::{LexFault, tokens};
 pub use token::{Symbol, Token, TokenKind, Tokens};
-pub use words::{has_capitals, is_lower_word, is_reserved, is_same_word, is_word};
+pub use words::{has_capitals, is_name, is_reserved, is_same_word};

@@ -2,7 +2,7 @@ ghost use Rattle.std.specs.Prelude.{◌≡◌, ℕ, List, length, take, map, sli
 ghost use Rattle.std.specs.List.{AllPass};
 ghost use Rattle.std.specs.Str.Parse.{digits_value};
 ghost use Rattle.mt_lexer.specs.Tokens.{Lexeme, Word, Number, Quoted, Sign, begins_word, is_in_word, is_digit, lower, symbol_bytes};
-ghost use Rattle.mt_lexer.specs.Reads.{IsWordRun, Reads, symbol_of};
+ghost use Rattle.mt_lexer.specs.FirstToken.{IsWordRun, IsFirstToken, symbol_of};
 
 use crate::{Symbol, TokenKind};
 
@@ -46,8 +46,8 @@ fn run_len(rest: &[u8]) -> usize
 
 /// The length of the word that these bytes begin with.
 pub fn word_len(rest: &[u8]) -> Option<usize>
-    ensures some { IfSome result (λ n. Reads rest.now n (Word (map lower (take n rest.now)))) }
-    ensures none { IfNone result ((n : ℕ) (name : List ℕ) → Reads rest.now n (Word name) → ⊥) }
+    ensures some { IfSome result (λ n. IsFirstToken rest.now n (Word (map lower (take n rest.now)))) }
+    ensures none { IfNone result ((n : ℕ) (name : List ℕ) → IsFirstToken rest.now n (Word name) → ⊥) }
 {
     let len = run_len(rest);
     if len > 0 && len <= WORD_LIMIT && begins_word(rest[0]) {
@@ -66,8 +66,8 @@ fn all_digits(bytes: &[u8]) -> bool
 
 /// The length of the number that these bytes begin with.
 pub fn number_len(rest: &[u8]) -> Option<usize>
-    ensures some { IfSome result (λ n. Reads rest.now n (Number (digits_value 10 (take n rest.now)))) }
-    ensures none { IfNone result ((n value : ℕ) → Reads rest.now n (Number value) → ⊥) }
+    ensures some { IfSome result (λ n. IsFirstToken rest.now n (Number (digits_value 10 (take n rest.now)))) }
+    ensures none { IfNone result ((n value : ℕ) → IsFirstToken rest.now n (Number value) → ⊥) }
 {
     let len = run_len(rest);
     if len > 0 && all_digits(&rest[..len]) {
@@ -79,8 +79,8 @@ pub fn number_len(rest: &[u8]) -> Option<usize>
 
 /// The length of the text in quotes that these bytes begin with, its quotes included.
 pub fn quoted_len(rest: &[u8]) -> Option<usize>
-    ensures some { IfSome result (λ n. (text : List ℕ) × Reads rest.now n (Quoted text)) }
-    ensures none { IfNone result ((n : ℕ) (text : List ℕ) → Reads rest.now n (Quoted text) → ⊥) }
+    ensures some { IfSome result (λ n. (text : List ℕ) × IsFirstToken rest.now n (Quoted text)) }
+    ensures none { IfNone result ((n : ℕ) (text : List ℕ) → IsFirstToken rest.now n (Quoted text) → ⊥) }
 {
     if byte_at(rest, 0) != QUOTE {
         return None;
@@ -131,8 +131,8 @@ fn symbol_of(first: u8, next: u8) -> Option<Symbol>
 
 /// The longest symbol that these bytes begin with.
 pub fn symbol_at(rest: &[u8]) -> Option<Symbol>
-    ensures some { IfSome result (λ s. Reads rest.now (length (symbol_bytes s)) (Sign s)) }
-    ensures none { IfNone result ((n : ℕ) (s : Symbol) → Reads rest.now n (Sign s) → ⊥) }
+    ensures some { IfSome result (λ s. IsFirstToken rest.now (length (symbol_bytes s)) (Sign s)) }
+    ensures none { IfNone result ((n : ℕ) (s : Symbol) → IsFirstToken rest.now n (Sign s) → ⊥) }
 {
     symbol_of(byte_at(rest, 0), byte_at(rest, 1))
 }

@@ -1,6 +1,6 @@
 ghost use Rattle.std.specs.Prelude.{◌≡◌, ◌≤◌, ◌<◌, ℕ, List, false, length, slice_index, IfOk, IfSome, IfNone};
 ghost use Rattle.mt_lexer.specs.declared.token.Token.{Token};
-ghost use Rattle.mt_lexer.specs.Reads.{Reads};
+ghost use Rattle.mt_lexer.specs.FirstToken.{IsFirstToken};
 ghost use Rattle.mt_lexer.specs.Tokens.{Lexeme, IsGap, IsOfKind, IsToken, Says, HasNoTokenAt, is_blank};
 
 use crate::piece::{number_len, quoted_len, symbol_at, symbol_len, word_len};
@@ -87,8 +87,8 @@ fn token_at(text: &[u8], at: usize) -> Option<Token>
 
 /// The kind of token that these bytes begin with, and how many it takes.
 fn kind_at(rest: &[u8]) -> Option<(TokenKind, usize)>
-    ensures some { IfSome result (λ found. (lexeme : Lexeme) × IsOfKind found.0 lexeme × Reads rest.now found.1 lexeme) }
-    ensures none { IfNone result ((n : ℕ) (lexeme : Lexeme) → Reads rest.now n lexeme → ⊥) }
+    ensures some { IfSome result (λ found. (lexeme : Lexeme) × IsOfKind found.0 lexeme × IsFirstToken rest.now found.1 lexeme) }
+    ensures none { IfNone result ((n : ℕ) (lexeme : Lexeme) → IsFirstToken rest.now n lexeme → ⊥) }
 {
     if let Some(len) = word_len(rest) {
         return Some((TokenKind::Word, len));

@@ -1,6 +1,5 @@
-use crate::{
-    LexFault, Symbol, TokenKind, is_lower_word, is_reserved, is_word, tokens, tokens_are_determined,
-};
+use crate::{LexFault, Symbol, TokenKind, is_name, is_reserved, tokens, tokens_are_determined};
+use mt_value::Str;
 use std::test::Fail;
 
 const WORD: TokenKind = TokenKind::Word;
@@ -100,20 +99,6 @@ fn refuses_what_is_no_token(rt: HostRuntime) -> Result<(), Fail> {
 }
 
 #[test]
-fn compares_words(rt: HostRuntime) -> Result<(), Fail> {
-    let text = "Select 'select'";
-    let found = tokens(rt.alloc(), text)?;
-    assert_eq!(rt; found.len(), 2);
-    for i in 0..2 {
-        let token = *found.get(i);
-        assert!(rt; token.from <= token.upto);
-        assert!(rt; token.upto <= text.len());
-        assert_eq!(rt; is_word(text, &token, "SELECT"), i == 0);
-    }
-    Ok(())
-}
-
-#[test]
 fn knows_reserved_words(rt: HostRuntime) {
     for word in ["and", "SELECT", "Values", "wHERE"] {
         assert!(rt; is_reserved(word.as_bytes()), "{word} is reserved");
@@ -124,20 +109,22 @@ fn knows_reserved_words(rt: HostRuntime) {
 }
 
 #[test]
-fn knows_words_in_lower_case(rt: HostRuntime) {
-    for word in ["a", "_", "a1_", "select", "a23456789_a23456789_a23456789_"] {
-        assert!(rt; is_lower_word(word.as_bytes()), "{word} is one");
+fn knows_names(rt: HostRuntime) -> Result<(), Fail> {
+    let cases = [
+        ("a", true),
+        ("_1", true),
+        ("create", true),
+        ("a23456789_a23456789_a23456789_", true),
+        ("", false),
+        ("A", false),
+        ("1a", false),
+        ("a b", false),
+        ("where", false),
+        ("a23456789_a23456789_a23456789_1", false),
+    ];
+    for (text, wanted) in cases {
+        let text = Str::from_bytes(rt.alloc(), text.as_bytes())?;
+        assert_eq!(rt; is_name(&text), wanted, "{}", text.as_str());
     }
-    for word in [
-        "",
-        "1a",
-        "A",
-        "aB",
-        "a-b",
-        "a ",
-        "ä",
-        "a23456789_a23456789_a23456789_1",
-    ] {
-        assert!(rt; !is_lower_word(word.as_bytes()), "{word} is none");
-    }
+    Ok(())
 }

@@ -1,22 +1,12 @@
-ghost use Rattle.std.specs.Prelude.{◌≡◌, ◌≤◌, ◌↔◌, length, map, IsTrue};
+ghost use Rattle.std.specs.Prelude.{◌≡◌, ◌↔◌, map, IsTrue};
 ghost use Rattle.std.specs.List.{list_all, list_any};
 ghost use Rattle.std.specs.Str.{bytes_eq};
-ghost use Rattle.mt_lexer.specs.Reserved.{reserved};
-ghost use Rattle.mt_lexer.specs.Tokens.{Lexeme, Word, IsToken, Spells, is_in_word, is_upper, lower};
-ghost use Rattle.mt_lexer.specs.Reads.{passes_as_lower_word};
+ghost use Rattle.mt_lexer.specs.Reserved.{IsNameText, is_reserved_name, reserved};
+ghost use Rattle.mt_lexer.specs.Tokens.{Word, Spells, is_in_word, is_upper, lower};
+ghost use Rattle.mt_lexer.specs.FirstToken.{passes_as_lower_word};
 
 use crate::piece::{WORD_LIMIT, begins_word, is_in_word};
-use crate::{Token, TokenKind};
-
-/// Whether the token is this word, in upper or lower case.
-pub fn is_word(text: &str, token: &Token, word: &str) -> bool
-    requires forward { token.now.from ≤ token.now.upto }
-    requires within { token.now.upto ≤ length text.now }
-    ensures { (lexeme : Lexeme) → IsToken text.now token.now lexeme → (IsTrue result ↔ (lexeme ≡ Word (map lower word.now))) }
-{
-    let bytes = &text.as_bytes()[token.from..token.upto];
-    token.kind == TokenKind::Word && bytes.eq_ignore_ascii_case(word.as_bytes())
-}
+use mt_value::Str;
 
 /// The words that have a meaning of their own, and so name nothing.
 const RESERVED: [&[u8]; 43] = [
@@ -67,7 +57,7 @@ const RESERVED: [&[u8]; 43] = [
 
 /// Whether a word is reserved, in any ASCII case.
 pub fn is_reserved(word: &[u8]) -> bool
-    ensures { result ≡ list_any (bytes_eq (map lower word.now)) reserved }
+    ensures { result ≡ is_reserved_name (map lower word.now) }
 {
     is_among(word, &RESERVED)
 }
@@ -86,9 +76,20 @@ pub fn is_same_word(word: &[u8], other: &[u8]) -> bool
     word.eq_ignore_ascii_case(other)
 }
 
+/// Whether a text is a name as trees keep them: a word in lower case that is not reserved.
+pub fn is_name(text: &Str) -> bool
+    ensures { IsTrue result ↔ IsNameText text.now }
+{
+    let bytes = text.as_str().as_bytes();
+    if is_reserved(bytes) {
+        return false;
+    }
+    is_lower_word(bytes)
+}
+
 /// Whether these bytes are a word in lower case.
 #[tactic(auto, using(crate::proofs::LowerWords::lower_word_spells))]
-pub fn is_lower_word(bytes: &[u8]) -> bool
+fn is_lower_word(bytes: &[u8]) -> bool
     ensures { IsTrue result ↔ Spells bytes.now (Word bytes.now) }
 {
     passes_as_lower_word(bytes)

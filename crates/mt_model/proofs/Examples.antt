@@ -29,7 +29,7 @@ use Rattle.mt_model.specs.Served.{statement_tree, plain_def, command_tree}
 use Rattle.mt_model.specs.Answer.{answer, next_view}
 use Rattle.mt_model.specs.Command.{table_of_defs, new_database, command_refusal, applied, applied_view}
 use Rattle.mt_model.specs.Database.{PrivateDatabase, no_rows, with_table_in_each}
-use Rattle.mt_model.specs.Isolation.{Asks, Takes, own_events, replies_to, private_replies}
+use Rattle.mt_model.specs.Isolation.{Asks, Accepts, own_events, replies_to, private_replies}
 use Rattle.mt_model.specs.Laws.{get-insert, command_step-decided}
 use Rattle.mt_model.specs.Request.{Request, Statement, Command}
 use Rattle.mt_model.specs.Service.{Service, View, empty_service, quota_total}
@@ -261,11 +261,11 @@ abbrev five_replies : List Reply
 five_replies = Text (codes "ok\n") ∷ Text (codes "ok\n") ∷ Refused UnknownTenant ∷ Text (codes "ok 1\n") ∷ Memory ∷ []
 
 -- to the tenant these are its own events, without the line that counts as not sent
-own_events-first : own_events 1 five_requests five_replies ≡ Takes (CreateTable (codes "t") defs) ∷ Takes (CreateTenant 1 1) ∷ Asks insert_seven ∷ []
+own_events-first : own_events 1 five_requests five_replies ≡ Accepts (CreateTable (codes "t") defs) ∷ Accepts (CreateTenant 1 1) ∷ Asks insert_seven ∷ []
 own_events-first = refl
 
 -- to the other the table, and the line that was refused
-own_events-second : own_events 2 five_requests five_replies ≡ Takes (CreateTable (codes "t") defs) ∷ Asks insert_seven ∷ []
+own_events-second : own_events 2 five_requests five_replies ≡ Accepts (CreateTable (codes "t") defs) ∷ Asks insert_seven ∷ []
 own_events-second = refl
 
 replies_to-first : replies_to 1 five_requests five_replies ≡ Text (codes "ok 1\n") ∷ []

@@ -8,19 +8,19 @@ use Rattle.mt_script.specs.Lines.{Line}
 use Rattle.mt_reader.specs.declared.parse.ParseFault.{ParseFault}
 use Rattle.mt_reader.specs.declared.parse.ParseFault.TheVariants as fault
 use Rattle.mt_reader.specs.Forms.{Form}
-use Rattle.mt_reader.specs.Reading.{Reads, Gives}
+use Rattle.mt_reader.specs.Reading.{ReadsAs, Gives}
 use Rattle.mt_grammar.specs.Statement.{SpellsStmt, IsStmtInside}
 use Rattle.mt_adminlang.specs.Command.{SpellsCommand}
 use Rattle.mt_adminlang.specs.Inside.{IsCommandInside}
 use Rattle.mt_model.specs.Served.{statement_tree, command_tree}
 use Rattle.mt_model.specs.Said.{Said, Unread, Outside, Unserved, Says, IsSaid, IsStatementSaid, IsCommandSaid}
-use Rattle.mt_model.specs.Request.{Request, LineTooLong, Unreadable, Statement, Command, IsSent, IsRequest}
+use Rattle.mt_model.specs.Request.{Request, Overlong, Unreadable, Statement, Command, IsSent, IsRequest}
 use Rattle.mt_script.specs.TagLaws.{HasTag-determined}
 use Rattle.mt_model.proofs.ServedTrees.{IsInjective, IsDecided, statement_tree-injective, command_tree-injective}
 
 -- a text reads as one tree at most
 abbrev pub IsDetermined : {T : Type 0} → Form T → Type 0
-IsDetermined {T} form = (text : List ℕ) (a b : T) → Reads form text a → Reads form text b → a ≡ b
+IsDetermined {T} form = (text : List ℕ) (a b : T) → ReadsAs form text a → ReadsAs form text b → a ≡ b
 
 module _ {Tree T : Type 0} (form : Form Tree) (inside : Tree → Type 0) (tree_of : T → Tree) where
   -- then it says one thing, where different things have different trees
@@ -43,8 +43,8 @@ module _ {Tree T : Type 0} (form : Form Tree) (inside : Tree → Type 0) (tree_o
   said-determined one apart text (Says x) (Says y) p q = ap Says (apart x y (one text (tree_of x) (tree_of y) p.0 q.0))
 
   -- what a text says that gives a tree
-  served-said : (text : List ℕ) (tree : Tree) → Reads form text tree → inside tree → IsDecided tree_of tree → (said : Said T) × IsSaid form inside tree_of text said
-  served-said text tree reads is (inl s) = (Says s.0, (subst (λ (tree : Tree). Reads form text tree) s.1 reads, subst inside s.1 is))
+  served-said : (text : List ℕ) (tree : Tree) → ReadsAs form text tree → inside tree → IsDecided tree_of tree → (said : Said T) × IsSaid form inside tree_of text said
+  served-said text tree reads is (inl s) = (Says s.0, (subst (λ (tree : Tree). ReadsAs form text tree) s.1 reads, subst inside s.1 is))
   served-said text tree reads is (inr none) = (Unserved, (tree, reads, is, none))
 
   -- what a text gives is what it says, where each tree is served or is not
@@ -72,10 +72,10 @@ sent-determined says_it one bytes who other a b p q =
 
 -- a line says one thing
 pub IsRequest-determined : IsDetermined SpellsStmt → IsDetermined SpellsCommand → (line : Line) (a b : Request) → IsRequest line a → IsRequest line b → a ≡ b
-IsRequest-determined statements commands lines.TooLong LineTooLong LineTooLong p q = refl
-IsRequest-determined statements commands lines.TooLong LineTooLong Unreadable p q = absurd q
-IsRequest-determined statements commands lines.TooLong LineTooLong (Statement n y) p q = absurd q
-IsRequest-determined statements commands lines.TooLong LineTooLong (Command y) p q = absurd q
+IsRequest-determined statements commands lines.TooLong Overlong Overlong p q = refl
+IsRequest-determined statements commands lines.TooLong Overlong Unreadable p q = absurd q
+IsRequest-determined statements commands lines.TooLong Overlong (Statement n y) p q = absurd q
+IsRequest-determined statements commands lines.TooLong Overlong (Command y) p q = absurd q
 IsRequest-determined statements commands lines.TooLong a b p q = absurd p
 IsRequest-determined statements commands (lines.Text bytes) Unreadable Unreadable p q = refl
 IsRequest-determined statements commands (lines.Text bytes) Unreadable (Statement n y) p q = absurd (p (Tenant n) q.text q.tagged)
@@ -93,5 +93,5 @@ IsRequest-determined statements commands (lines.Text bytes) (Command x) (Stateme
     let senders : Admin ≡ Tenant n = sender-determined bytes Admin (Tenant n) (λ text. IsCommandSaid text x) (λ text. IsStatementSaid text y) p q in
     cc
 IsRequest-determined statements commands (lines.Text bytes) (Command x) (Command y) p q = ap Command (sent-determined IsCommandSaid (command-said commands) bytes Admin Admin x y p q)
-IsRequest-determined statements commands (lines.Text bytes) LineTooLong b p q = absurd p
-IsRequest-determined statements commands (lines.Text bytes) a LineTooLong p q = absurd q
+IsRequest-determined statements commands (lines.Text bytes) Overlong b p q = absurd p
+IsRequest-determined statements commands (lines.Text bytes) a Overlong p q = absurd q

@@ -15,9 +15,9 @@ use Rattle.mt_model.specs.Said.{Said, Unread, Outside, Unserved, Says}
 use Rattle.mt_model.specs.Database.{PrivateDatabase, with_table_in_each}
 use Rattle.mt_model.specs.Answer.{answer, answer_said, next_database, next_view, next_said, first_refusal, reply_text}
 use Rattle.mt_model.specs.Command.{command_refusal, applied, applied_view, new_database, table_of_defs}
-use Rattle.mt_model.specs.Isolation.{service_rules, Event, Asks, Takes, unless_forgone, event_of, own_events, reply_to, replies_to, private_replies}
+use Rattle.mt_model.specs.Isolation.{service_rules, Event, Asks, Accepts, unless_forgone, event_of, own_events, reply_to, replies_to, private_replies}
 use Rattle.mt_model.specs.Laws.{get-in_each, view_with, view_of-put_own, view_of-put_other}
-use Rattle.mt_model.specs.Request.{Request, LineTooLong, Unreadable, Statement, Command}
+use Rattle.mt_model.specs.Request.{Request, Overlong, Unreadable, Statement, Command}
 use Rattle.mt_model.specs.Run.{IsStepped, IsForgone, IsRun}
 use Rattle.mt_model.specs.Service.{Service, View, view_of, put_database}
 use Rattle.mt_model.specs.Step.{Stepped, step, refused}
@@ -29,7 +29,7 @@ IsSeen tenant service request reply next = (events : List Event) → reply_to te
 
 -- what is answered for want of memory is as if it had not been sent
 forgone-seen : (tenant : ℕ) (service : Service) (request : Request) → IsSeen tenant service request Memory service
-forgone-seen tenant service LineTooLong events = refl
+forgone-seen tenant service Overlong events = refl
 forgone-seen tenant service Unreadable events = refl
 forgone-seen tenant service (Statement other said) events =
     elim (other == tenant) as (λ own. (if own then [] else []) ++ private_replies (view_of service tenant) events ≡ private_replies (view_of service tenant) ((if own then [] else []) ++ events)) [ true ↦ refl | false ↦ refl ]
@@ -91,7 +91,7 @@ table-view tenant service name columns = ap (view_with (service.tables ++ table_
 -- the new tenant is this one, or another
 tenant-seen : (tenant : ℕ) (service : Service) (other quota : ℕ) (events : List Event) (own : Bool) → (other == tenant) ≡ own →
     private_replies (view_of (applied service (CreateTenant other quota)) tenant) events
-    ≡ private_replies (view_of service tenant) ((if own then Takes (CreateTenant other quota) ∷ [] else []) ++ events)
+    ≡ private_replies (view_of service tenant) ((if own then Accepts (CreateTenant other quota) ∷ [] else []) ++ events)
 tenant-seen tenant service other quota events true e =
     let database : PrivateDatabase = new_database service.tables quota in
     subst (λ (new : ℕ). private_replies (view_of (applied service (CreateTenant new quota)) tenant) events ≡ private_replies (view_with service.tables (Some database)) events) (sym (eqb-true other tenant e))
@@ -119,7 +119,7 @@ command-seen tenant service command (Some code) = refused-seen tenant service co
 
 -- the step of a request
 step-seen : (tenant : ℕ) (service : Service) (request : Request) → IsSeen tenant service request (step service request).reply (step service request).next
-step-seen tenant service LineTooLong events = refl
+step-seen tenant service Overlong events = refl
 step-seen tenant service Unreadable events = refl
 step-seen tenant service (Statement other said) events = statement-seen tenant service other said events (other == tenant) refl
 step-seen tenant service (Command Unread) events = refl

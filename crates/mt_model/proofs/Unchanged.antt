@@ -12,7 +12,7 @@ use Rattle.mt_model.specs.Command.{command_refusal, applied}
 use Rattle.mt_model.specs.Database.{PrivateDatabase}
 use Rattle.mt_model.specs.Isolation.{service_rules}
 use Rattle.mt_model.specs.Laws.{view_with, put_database-there}
-use Rattle.mt_model.specs.Request.{Request, LineTooLong, Unreadable, Statement, Command}
+use Rattle.mt_model.specs.Request.{Request, Overlong, Unreadable, Statement, Command}
 use Rattle.mt_model.specs.Run.{Answers, IsStepped, IsForgone}
 use Rattle.mt_model.specs.Service.{Service, View, put_database}
 use Rattle.mt_model.specs.Step.{Stepped, step, refused}
@@ -46,7 +46,7 @@ command-refused service command code (Some refusal) e = refl
 
 -- a step that refuses leaves the service
 step-refused : (service : Service) (request : Request) (code : Code) → Refused code ≡ (step service request).reply → (step service request).next ≡ service
-step-refused service LineTooLong code e = refl
+step-refused service Overlong code e = refl
 step-refused service Unreadable code e = refl
 step-refused service (Statement tenant said) code e = statement-refused service tenant said code (finite.get service.tenants tenant) refl e
 step-refused service (Command Unread) code e = refl

@@ -8,7 +8,7 @@ use Rattle.mt_script.specs.Lines as lines
 use Rattle.mt_script.specs.Lines.{Line}
 use Rattle.mt_model.specs.Command.{applied}
 use Rattle.mt_model.specs.Said.{Unserved, Says}
-use Rattle.mt_model.specs.Request.{Request, LineTooLong, Command}
+use Rattle.mt_model.specs.Request.{Request, Overlong, Command}
 use Rattle.mt_model.specs.Service.{Service, quota_total}
 use Rattle.mt_model.specs.Step.{Stepped, refused, step}
 use Rattle.mt_model.specs.Run.{Rules}
@@ -24,7 +24,7 @@ pub record SpellsCreateTenant (bytes : List ℕ) (tenant quota : ℕ) : Type 0 w
 
 -- what a line says to the word `run`: it makes a tenant, or has no form that is served
 abbrev pub IsFirstPathRequest : Line → Request → Type 0
-IsFirstPathRequest lines.TooLong LineTooLong = Unit {0}
+IsFirstPathRequest lines.TooLong Overlong = Unit {0}
 IsFirstPathRequest (lines.Text bytes) (Command (Says (CreateTenant tenant quota))) = SpellsCreateTenant bytes tenant quota
 -- whatever else it is
 IsFirstPathRequest (lines.Text bytes) (Command Unserved) = (tenant quota : ℕ) → SpellsCreateTenant bytes tenant quota → ⊥

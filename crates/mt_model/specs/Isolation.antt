@@ -8,7 +8,7 @@ use Rattle.mt_tree.specs.declared.simple.SimpleCmd.TheVariants.{CreateTable, Cre
 use Rattle.mt_model.specs.Answer.{answer, next_view}
 use Rattle.mt_model.specs.Command.{applied_view}
 use Rattle.mt_model.specs.Said.{Said, Unread, Outside, Unserved, Says}
-use Rattle.mt_model.specs.Request.{Request, LineTooLong, Unreadable, Statement, Command, IsRequest}
+use Rattle.mt_model.specs.Request.{Request, Overlong, Unreadable, Statement, Command, IsRequest}
 use Rattle.mt_model.specs.Run.{Rules}
 use Rattle.mt_model.specs.Service.{View}
 use Rattle.mt_model.specs.Step.{step}
@@ -22,7 +22,7 @@ pub data Event : Type 0 where
   -- a line of the tenant
   Asks : (said : Said SimpleStmt) → Event
   -- an accepted schema step
-  Takes : (command : SimpleCmd) → Event
+  Accepts : (command : SimpleCmd) → Event
 
 -- a line that is answered for want of memory counts as not sent
 abbrev pub unless_forgone : {A : Type 0} → Reply → A → List A
@@ -38,8 +38,8 @@ if_accepted (Refused code) x = []
 
 -- a new table bears on every tenant, a new tenant on itself
 abbrev pub command_events : ℕ → SimpleCmd → Reply → List Event
-command_events tenant (CreateTable name columns) reply = if_accepted reply (Takes (CreateTable name columns))
-command_events tenant (CreateTenant other quota) reply = if other == tenant then if_accepted reply (Takes (CreateTenant other quota)) else []
+command_events tenant (CreateTable name columns) reply = if_accepted reply (Accepts (CreateTable name columns))
+command_events tenant (CreateTenant other quota) reply = if other == tenant then if_accepted reply (Accepts (CreateTenant other quota)) else []
 
 -- what a command of the administrator is to the tenant
 abbrev pub said_events : ℕ → Said SimpleCmd → Reply → List Event
@@ -50,7 +50,7 @@ said_events tenant (Says command) reply = command_events tenant command reply
 
 -- what a request is to the tenant
 abbrev pub event_of : ℕ → Request → Reply → List Event
-event_of tenant LineTooLong reply = []
+event_of tenant Overlong reply = []
 event_of tenant Unreadable reply = []
 event_of tenant (Statement other said) reply = if other == tenant then unless_forgone reply (Asks said) else []
 event_of tenant (Command said) reply = said_events tenant said reply
@@ -74,4 +74,4 @@ replies_to tenant requests replies = []
 abbrev pub private_replies : View → List Event → List Reply
 private_replies view [] = []
 private_replies view (Asks said ∷ events) = answer view said ∷ private_replies (next_view view said) events
-private_replies view (Takes command ∷ events) = private_replies (applied_view view command) events
+private_replies view (Accepts command ∷ events) = private_replies (applied_view view command) events

@@ -96,7 +96,7 @@ command_said_prints service Unserved = refusal_prints NotServed
 command_said_prints service (Says command) = command_prints service command (command_refusal service command)
 
 step_prints : (service : Service) (asked : request.Request) → Prints ((step service asked).reply)
-step_prints service request.LineTooLong = refusal_prints LineTooLong
+step_prints service request.Overlong = refusal_prints LineTooLong
 step_prints service request.Unreadable = refusal_prints LineNotReadable
 step_prints service (request.Statement tenant said) = answer_prints service.tables (finite.get service.tenants tenant) said
 step_prints service (request.Command said) = command_said_prints service said
@@ -115,7 +115,7 @@ first_path_step_prints service (request.Command (Says (CreateTable name columns)
 first_path_step_prints service (request.Command Unread) = step_prints service (request.Command Unread)
 first_path_step_prints service (request.Command Outside) = step_prints service (request.Command Outside)
 first_path_step_prints service (request.Command Unserved) = step_prints service (request.Command Unserved)
-first_path_step_prints service request.LineTooLong = step_prints service request.LineTooLong
+first_path_step_prints service request.Overlong = step_prints service request.Overlong
 first_path_step_prints service request.Unreadable = step_prints service request.Unreadable
 first_path_step_prints service (request.Statement tenant said) = step_prints service (request.Statement tenant said)
 

@@ -11,7 +11,7 @@ use Rattle.mt_model.specs.Said.{Said, IsStatementSaid, IsCommandSaid}
 
 -- what a line asks: of a tenant's database, or of the service
 pub data Request : Type 0 where
-  LineTooLong : Request
+  Overlong : Request
   -- the line is not UTF-8, or has no tag
   Unreadable : Request
   Statement : (tenant : ℕ) (said : Said SimpleStmt) → Request
@@ -25,9 +25,9 @@ pub record IsSent (bytes : List ℕ) (who : Who) (says_it : List ℕ → Type 0)
 
 -- the line says this; each line says one thing
 abbrev pub IsRequest : Line → Request → Type 0
-IsRequest lines.TooLong LineTooLong = Unit {0}
+IsRequest lines.TooLong Overlong = Unit {0}
 IsRequest lines.TooLong request = ⊥
-IsRequest (lines.Text bytes) LineTooLong = ⊥
+IsRequest (lines.Text bytes) Overlong = ⊥
 IsRequest (lines.Text bytes) Unreadable = (who : Who) (text : List ℕ) → HasTag bytes who text → ⊥
 IsRequest (lines.Text bytes) (Statement tenant said) = IsSent bytes (Tenant tenant) (λ text. IsStatementSaid text said)
 IsRequest (lines.Text bytes) (Command said) = IsSent bytes Admin (λ text. IsCommandSaid text said)

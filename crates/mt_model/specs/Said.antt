@@ -3,7 +3,7 @@ use Rattle.std.specs.Prelude.{◌≡◌, ℕ, List}
 use Rattle.mt_tree.specs.declared.simple.SimpleStmt.{SimpleStmt}
 use Rattle.mt_tree.specs.declared.simple.SimpleCmd.{SimpleCmd}
 use Rattle.mt_reader.specs.Forms.{Form}
-use Rattle.mt_reader.specs.Reading.{Reads}
+use Rattle.mt_reader.specs.Reading.{ReadsAs}
 use Rattle.mt_grammar.specs.Statement.{SpellsStmt, IsStmtInside}
 use Rattle.mt_adminlang.specs.Command.{SpellsCommand}
 use Rattle.mt_adminlang.specs.Inside.{IsCommandInside}
@@ -25,10 +25,10 @@ IsServed {Tree} {T} tree_of tree = (x : T) × (tree ≡ tree_of x)
 
 -- what a text says in a form, with a test for numbers inside 64 bits, and the trees of what is served
 abbrev pub IsSaid : {Tree T : Type 0} → Form Tree → (Tree → Type 0) → (T → Tree) → List ℕ → Said T → Type 0
-IsSaid {Tree} form inside tree_of text Unread = (tree : Tree) → Reads form text tree → ⊥
-IsSaid {Tree} form inside tree_of text Outside = (tree : Tree) × Reads form text tree × (inside tree → ⊥)
-IsSaid {Tree} form inside tree_of text Unserved = (tree : Tree) × Reads form text tree × inside tree × (IsServed tree_of tree → ⊥)
-IsSaid form inside tree_of text (Says x) = Reads form text (tree_of x) × inside (tree_of x)
+IsSaid {Tree} form inside tree_of text Unread = (tree : Tree) → ReadsAs form text tree → ⊥
+IsSaid {Tree} form inside tree_of text Outside = (tree : Tree) × ReadsAs form text tree × (inside tree → ⊥)
+IsSaid {Tree} form inside tree_of text Unserved = (tree : Tree) × ReadsAs form text tree × inside tree × (IsServed tree_of tree → ⊥)
+IsSaid form inside tree_of text (Says x) = ReadsAs form text (tree_of x) × inside (tree_of x)
 
 -- what a tenant's text says
 abbrev pub IsStatementSaid : List ℕ → Said SimpleStmt → Type 0

@@ -8,7 +8,7 @@ use Rattle.mt_tree.specs.declared.reply.Reply.TheVariants.{Text, Refused}
 use Rattle.mt_model.specs.Answer.{answer, next_database}
 use Rattle.mt_model.specs.Command.{command_refusal, applied}
 use Rattle.mt_model.specs.Said.{Said, Unread, Outside, Unserved, Says}
-use Rattle.mt_model.specs.Request.{Request, LineTooLong, Unreadable, Statement, Command}
+use Rattle.mt_model.specs.Request.{Request, Overlong, Unreadable, Statement, Command}
 use Rattle.mt_model.specs.Service.{Service, view_of, put_database}
 
 -- the reply to a request, and the service after it
@@ -37,7 +37,7 @@ command_said service (Says command) = command_step service command
 
 -- the step of a request: every line is answered, and only an accepted one changes the service
 abbrev pub step : Service → Request → Stepped
-step service LineTooLong = refused service code.LineTooLong
+step service Overlong = refused service code.LineTooLong
 step service Unreadable = refused service code.LineNotReadable
 step service (Statement tenant said) = record {
   reply = answer (view_of service tenant) said;

@@ -9,7 +9,7 @@ ghost use Rattle.mt_script.specs.Lines.{Line};
 ghost use Rattle.mt_model.specs.FirstPath.{first_path};
 ghost use Rattle.mt_model.specs.Isolation.{service_rules, own_events, replies_to, private_replies};
 ghost use Rattle.mt_model.specs.Laws.{EachStepPrints};
-ghost use Rattle.mt_model.specs.Request.{Request, LineTooLong, Unreadable, IsRequest};
+ghost use Rattle.mt_model.specs.Request.{Request, Overlong, Unreadable, IsRequest};
 ghost use Rattle.mt_model.specs.Run.{Answers, IsRun};
 ghost use Rattle.mt_model.specs.Said.{Said, IsStatementSaid, IsCommandSaid};
 ghost use Rattle.mt_model.specs.Service.{Service, view_of};
@@ -38,7 +38,7 @@ pub fn each_text_says_something()
 pub fn unread_lines_need_no_service()
     ensures too_long { (service next : Service) (line : Line) (request : Request) (reply : Reply)
         → Answers service_rules service line request reply next
-        → (reply ≡ Refused code.LineTooLong) ↔ (request ≡ LineTooLong) }
+        → (reply ≡ Refused code.LineTooLong) ↔ (request ≡ Overlong) }
     ensures not_readable { (service next : Service) (line : Line) (request : Request) (reply : Reply)
         → Answers service_rules service line request reply next
         → (reply ≡ Refused code.LineNotReadable) ↔ (request ≡ Unreadable) }

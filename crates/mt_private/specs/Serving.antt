@@ -13,9 +13,9 @@ fault_of parse.Literal = fault.Outside
 fault_of parse.Memory = fault.Memory
 
 -- want of memory says nothing
-abbrev pub Serves : {T : Type 0} → (Said T → Type 0) → Result T ServeFault → Type 0
-Serves says (Ok x) = says (Says x)
-Serves says (Err fault.Unread) = says Unread
-Serves says (Err fault.Outside) = says Outside
-Serves says (Err fault.Unserved) = says Unserved
-Serves says (Err fault.Memory) = Unit {0}
+abbrev pub ServesAs : {T : Type 0} → (Said T → Type 0) → Result T ServeFault → Type 0
+ServesAs says (Ok x) = says (Says x)
+ServesAs says (Err fault.Unread) = says Unread
+ServesAs says (Err fault.Outside) = says Outside
+ServesAs says (Err fault.Unserved) = says Unserved
+ServesAs says (Err fault.Memory) = Unit {0}

@@ -5,7 +5,7 @@ ghost use Rattle.mt_tree.specs.declared.simple.SimpleStmt.{SimpleStmt};
 ghost use Rattle.mt_script.specs.Lines.{Text};
 ghost use Rattle.mt_model.specs.Said.{Said, Says, IsStatementSaid, IsCommandSaid};
 
-use crate::create_table::{table_of, table_refusal};
+use crate::create_table::{new_table, table_refusal};
 use crate::create_tenant::{Tenants, new_database, tenant_refusal};
 use crate::said::{ServeFault, said_command};
 use crate::statement::statement;
@@ -112,7 +112,7 @@ impl Plain {
         let Ok(text) = ReplyText::from_bytes(self.alloc, b"ok\n") else {
             return Reply::Memory;
         };
-        let Ok(table) = table_of(self.alloc, name, columns) else {
+        let Ok(table) = new_table(self.alloc, name, columns) else {
             return Reply::Memory;
         };
         let Ok(()) = self.tables.push(table) else {

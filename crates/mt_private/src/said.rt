@@ -1,5 +1,5 @@
 ghost use Rattle.mt_model.specs.Said.{IsStatementSaid, IsCommandSaid};
-ghost use Rattle.mt_private.specs.Serving.{Serves};
+ghost use Rattle.mt_private.specs.Serving.{ServesAs};
 
 use crate::served::{served_command, served_statement};
 use mt_adminlang::parse_admin;
@@ -53,7 +53,7 @@ impl From<AllocError> for ServeFault {
 
 /// What a tenant's text says.
 pub(crate) fn said_statement(alloc: Global, text: &str) -> Result<SimpleStmt, ServeFault>
-    ensures { Serves (λ said. IsStatementSaid text.now said) result }
+    ensures { ServesAs (λ said. IsStatementSaid text.now said) result }
 {
     let statement = parse(alloc, text)?;
     match served_statement(alloc, statement)? {
@@ -64,7 +64,7 @@ pub(crate) fn said_statement(alloc: Global, text: &str) -> Result<SimpleStmt, Se
 
 /// What the administrator's text says.
 pub(crate) fn said_command(alloc: Global, text: &str) -> Result<SimpleCmd, ServeFault>
-    ensures { Serves (λ said. IsCommandSaid text.now said) result }
+    ensures { ServesAs (λ said. IsCommandSaid text.now said) result }
 {
     let command = parse_admin(alloc, text)?;
     match served_command(alloc, command)? {

@@ -14,7 +14,7 @@ use Rattle.mt_reader.specs.declared.parse.ParseFault.{ParseFault}
 use Rattle.mt_reader.specs.declared.parse.ParseFault.TheVariants as fault
 use Rattle.mt_reader.specs.Forms.{Form, WithSemicolon}
 use Rattle.mt_reader.specs.Literals.{IsLiteralInside, limit_64}
-use Rattle.mt_reader.specs.Reading.{Reads, Gives}
+use Rattle.mt_reader.specs.Reading.{ReadsAs, Gives}
 
 -- this holds, or it does not
 abbrev pub OrNot : Type 0 → Type 0
@@ -69,7 +69,7 @@ module _ {T : Type 0} (form : Form T) (inside : T → Type 0) (whole : List Lexe
     λ same. cc,
   )
   lexemes_give text tokens lexemes says (Some tree) e =
-      let reads : Reads form text tree = record { tokens = tokens; lexemes = lexemes; says = says; spelled = sound lexemes tree e } in
+      let reads : ReadsAs form text tree = record { tokens = tokens; lexemes = lexemes; says = says; spelled = sound lexemes tree e } in
       elim (inside_or_not tree) [ inl is ↦ (Ok tree, (reads, is), λ same. cc) | inr fails ↦ (Err fault.Literal, (tree, reads, fails), λ same. cc) ]
 
   -- what a text gives

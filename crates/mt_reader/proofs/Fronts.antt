@@ -8,7 +8,7 @@ use Rattle.mt_reader.specs.Descent.{is_same, after}
 use Rattle.mt_reader.specs.Forms.{Form}
 use Rattle.mt_reader.specs.Fronts.{Begins, TookFront, TakesFront}
 use Rattle.mt_reader.proofs.Shrinking.{same_tree, same_rest}
-use Rattle.mt_reader.specs.Taken.{Keeps, Takes, TakesInside}
+use Rattle.mt_reader.specs.Taken.{Keeps, TakesExactly, TakesInside}
 use Rattle.mt_reader.proofs.Spelling.{IsSound, IsCompleteBefore, after_is}
 
 -- what does not come first is not taken
@@ -55,7 +55,7 @@ module _ {T : Type 0} (form : Form T) (read : List Lexeme → Option (T × List 
         let both : ◌≡◌ {A = Option (T × List Lexeme)} None (Some (tree, rest)) = sym e ∙ front_reads tokens rest tree end b in cc
 
     -- a call that takes what reads takes a front
-    pub takes_front : (r : Result T ReadFault) (tokens left : List Lexeme) → Takes r (λ tree. (tree, left)) (read tokens) → TakesFront form ends (λ kept tree. kept ≡ tree) r tokens left
+    pub takes_front : (r : Result T ReadFault) (tokens left : List Lexeme) → TakesExactly r (λ tree. (tree, left)) (read tokens) → TakesFront form ends (λ kept tree. kept ≡ tree) r tokens left
     takes_front (Ok tree) tokens left t = took_front (λ kept tree. kept ≡ tree) tree tokens left tree t refl
     takes_front (Err fault.Unread) tokens left t = no_front tokens t
     takes_front (Err fault.Memory) tokens left t = tt

@@ -13,3 +13,4 @@ pub mod Texts
 pub mod Maybes
 pub mod Shrinking
 pub mod Decided
+pub mod Eithers

@@ -4,7 +4,8 @@ use Rattle.std.specs.Option.{option_and_then}
 use Rattle.mt_lexer.specs.declared.token.Symbol.TheVariants as symbol
 use Rattle.mt_lexer.specs.Tokens.{Lexeme, Word, Number, Quoted, Sign}
 use Rattle.mt_tree.specs.declared.expression.Literal.{Literal}
-use Rattle.mt_reader.specs.Descent.{is_same, after, name_of, number_of, literal_of, is_reserved_name}
+use Rattle.mt_reader.specs.Descent.{is_same, after, name_of, number_of, literal_of}
+use Rattle.mt_lexer.specs.Reserved.{is_reserved_name}
 
 -- what was read in two steps
 pub bind_some : {A B : Type 0} (o : Option A) (f : A → Option B) (b : B) → option_and_then f o ≡ Some b → (a : A) × (o ≡ Some a) × (f a ≡ Some b)

@@ -9,7 +9,8 @@ use Rattle.mt_lexer.specs.declared.token.Symbol.TheVariants as symbol
 use Rattle.mt_lexer.specs.Tokens.{Lexeme, Word, Number, Quoted, Sign}
 use Rattle.mt_reader.specs.Forms.{Form, Separated, WithSemicolon}
 use Rattle.mt_reader.specs.Fronts.{Begins, AtEnd}
-use Rattle.mt_reader.specs.Descent.{is_same, after, name_of, number_of, is_reserved_name, items_of, items_behind, separated_of, with_front, ended, end_of}
+use Rattle.mt_reader.specs.Descent.{is_same, after, name_of, number_of, items_of, items_behind, separated_of, with_front, ended, end_of}
+use Rattle.mt_lexer.specs.Reserved.{is_reserved_name}
 use Rattle.mt_reader.proofs.Shrinking.{bind_some, guard_some, test_some, same_tree, same_rest, after_shrinks}
 
 -- lexemes that pass the test are one

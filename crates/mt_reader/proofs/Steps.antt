@@ -10,7 +10,8 @@ use Rattle.mt_lexer.specs.declared.token.Symbol.TheVariants as symbol
 use Rattle.mt_lexer.specs.Tokens.{Lexeme, Sign, lower}
 use Rattle.mt_reader.specs.declared.piece.Piece.{Piece}
 use Rattle.mt_reader.specs.declared.piece.Piece.TheVariants as piece
-use Rattle.mt_reader.specs.Descent.{is_same, after, is_end, end_of, name_of, number_of, is_reserved_name}
+use Rattle.mt_reader.specs.Descent.{is_same, after, is_end, end_of, name_of, number_of}
+use Rattle.mt_lexer.specs.Reserved.{is_reserved_name}
 use Rattle.mt_reader.specs.Pieces.{lexeme_of, word_of, digits_of, IsPiece}
 use Rattle.mt_reader.specs.Taken.{Skips}
 

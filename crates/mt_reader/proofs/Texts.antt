@@ -11,19 +11,19 @@ use Rattle.mt_reader.specs.declared.parse.ParseFault.TheVariants as fault
 use Rattle.mt_reader.specs.Forms.{Form, WithSemicolon}
 use Rattle.mt_reader.specs.Lexing.{ParseFaultOf}
 use Rattle.mt_reader.specs.Pieces.{lexeme_at}
-use Rattle.mt_reader.specs.Reading.{Reads, Gives}
+use Rattle.mt_reader.specs.Reading.{ReadsAs, Gives}
 use Rattle.mt_reader.specs.Taken.{Answers}
 use Rattle.mt_reader.proofs.Lexemes.{tokens_say}
 
 module _ {T : Type 0} (form : Form T) (whole : List Lexeme → Option T) (complete : (lexemes : List Lexeme) (tree : T) → WithSemicolon form lexemes tree → whole lexemes ≡ Some tree) where
   -- what a text reads as is what its lexemes do
-  whole_reads : (text : List ℕ) (tokens : List Token) (lexemes : List Lexeme) (tree : T) → lexer.Says text tokens lexemes → Reads form text tree → whole lexemes ≡ Some tree
+  whole_reads : (text : List ℕ) (tokens : List Token) (lexemes : List Lexeme) (tree : T) → lexer.Says text tokens lexemes → ReadsAs form text tree → whole lexemes ≡ Some tree
   whole_reads text tokens lexemes tree s r =
       let same = says_unique text r.tokens tokens r.lexemes lexemes r.says s in
       ap whole (sym same.1) ∙ complete r.lexemes tree r.spelled
 
   -- a text reads as one tree at most
-  pub reads_unique : (text : List ℕ) (a b : T) → Reads form text a → Reads form text b → a ≡ b
+  pub reads_unique : (text : List ℕ) (a b : T) → ReadsAs form text a → ReadsAs form text b → a ≡ b
   reads_unique text a b r s =
       let first = complete r.lexemes a r.spelled in
       let second = whole_reads text r.tokens r.lexemes b r.says s in
@@ -44,7 +44,7 @@ module _ {T : Type 0} (form : Form T) (whole : List Lexeme → Option T) (comple
       gives_whole inside sound text tokens lexemes r s (subst (λ ls. Answers inside r (whole ls)) same a)
 
 -- a text with no tokens has no form
-refused_reads : {T : Type 0} (form : Form T) (text : List ℕ) (at : ℕ) → HasNoTokenAt text at → (tree : T) → Reads form text tree → ⊥
+refused_reads : {T : Type 0} (form : Form T) (text : List ℕ) (at : ℕ) → HasNoTokenAt text at → (tree : T) → ReadsAs form text tree → ⊥
 refused_reads form text at h tree r = refused_says_nothing text at r.tokens r.lexemes h r.says
 
 -- why a text has no tokens is why it gives no tree

@@ -1,6 +1,5 @@
 -- The forms as functions, which read lexemes from the left: the tree, and the lexemes behind it.
 use Rattle.std.specs.Prelude.{ℕ, zero, suc, Bool, true, false, not, if◌then◌else◌, Option, Some, None, option_and_then, unwrap_or, pos, neg_ℤ, List, [], ◌∷◌, ◌++◌, length, codes}
-use Rattle.std.specs.List.{list_any}
 use Rattle.std.specs.Str.{bytes_eq}
 use denote.Enum.Bare.{sameb}
 use Rattle.mt_lexer.specs.contracts.token.Symbol.{the_type}
@@ -9,7 +8,7 @@ use Rattle.mt_lexer.specs.declared.token.Symbol.TheVariants as symbol
 use Rattle.mt_lexer.specs.Tokens.{Lexeme, Word, Number, Quoted, Sign}
 use Rattle.mt_tree.specs.declared.expression.Literal.{Literal}
 use Rattle.mt_tree.specs.declared.expression.Literal.TheVariants.{Null, Int, Text}
-use Rattle.mt_lexer.specs.Reserved.{reserved}
+use Rattle.mt_lexer.specs.Reserved.{is_reserved_name}
 
 infixl 10 ◌>>=◌
 -- what is read next from what was read, if there is anything
@@ -31,9 +30,10 @@ unfoldable pub after : Lexeme → List Lexeme → Option (List Lexeme)
 after lexeme [] = None
 after lexeme (first ∷ rest) = if is_same first lexeme then Some rest else None
 
--- whether a word is reserved
-abbrev pub is_reserved_name : List ℕ → Bool
-is_reserved_name name = list_any (bytes_eq name) reserved
+-- what reads behind a word or symbol, where it is there, and else the other
+abbrev pub either : {X : Type 0} → Option (List Lexeme) → (List Lexeme → Option X) → Option X → Option X
+either None read other = other
+either (Some rest) read other = read rest
 
 -- a word that is not reserved
 unfoldable pub name_of : List Lexeme → Option (List ℕ × List Lexeme)

@@ -22,9 +22,9 @@ Fails fault.Unread read = read ≡ None
 Fails fault.Memory read = Unit {0}
 
 -- It took what reads as this.
-abbrev pub Takes : {X Y : Type 0} → Result X ReadFault → (X → Y) → Option Y → Type 0
-Takes (Ok x) tree read = read ≡ Some (tree x)
-Takes (Err e) tree read = Fails e read
+abbrev pub TakesExactly : {X Y : Type 0} → Result X ReadFault → (X → Y) → Option Y → Type 0
+TakesExactly (Ok x) tree read = read ≡ Some (tree x)
+TakesExactly (Err e) tree read = Fails e read
 
 -- a tree with a number outside 64 bits is not kept
 abbrev pub Keeps : {X : Type 0} → (X → Type 0) → Option X → X → Type 0

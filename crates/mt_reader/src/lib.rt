@@ -5,7 +5,7 @@
 
 mod digits;
 mod fault;
-mod item;
+mod production;
 mod literal;
 mod parse;
 mod piece;
@@ -13,7 +13,7 @@ mod reader;
 
 pub use digits::size_of;
 pub use fault::ReadFault;
-pub use item::{Item, NameForm, bracketed, optional, pushed, separated};
+pub use production::{NameForm, Production, bracketed, optional, pushed, separated};
 pub use literal::LiteralForm;
 pub use parse::ParseFault;
 pub use piece::Piece;

@@ -9,7 +9,7 @@ ghost use Rattle.mt_reader.specs.Taken.{Keeps, TakesInside};
 
 use crate::ReadFault;
 use crate::digits::{integer_of, negative_of};
-use crate::item::Item;
+use crate::production::Production;
 use crate::piece::{Piece, undoubled};
 use crate::reader::{Reader, text_of};
 use mt_lexer::Symbol;
@@ -19,7 +19,7 @@ use std::alloc::{AllocError, Global};
 /// A literal, as an item of a list.
 pub enum LiteralForm {}
 
-impl Item for LiteralForm {
+impl Production for LiteralForm {
     ghost use Rattle.mt_reader.specs.Descent.{literal_of};
     ghost use Rattle.mt_reader.specs.Literals.{IsLiteralInside};
 
@@ -34,7 +34,7 @@ impl Item for LiteralForm {
     }
 }
 
-/// Takes a literal, by its first token.
+/// TakesExactly a literal, by its first token.
 fn literal(alloc: Global, reader: &mut Reader<'_>) -> Result<Option<Literal>, ReadFault>
     ensures { TakesInside IsLiteralInside result reader.new (literal_of reader.old) }
 {

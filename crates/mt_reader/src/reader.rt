@@ -5,7 +5,7 @@ ghost use Rattle.std.specs.Str.Parse.{digits_value};
 ghost use Rattle.mt_lexer.specs.Tokens.{Word, Sign, is_digit, lower};
 ghost use Rattle.mt_reader.specs.Pieces.{AreTokens, IsPiece, lexeme_at, lexeme_of};
 ghost use Rattle.mt_reader.specs.Descent.{after, name_of, number_of, is_end, end_of, begins_with_name, begins_with_word, first_symbol};
-ghost use Rattle.mt_reader.specs.Taken.{Skips, Takes};
+ghost use Rattle.mt_reader.specs.Taken.{Skips, TakesExactly};
 
 use crate::ReadFault;
 use crate::piece::{Piece, piece_of};
@@ -61,7 +61,7 @@ impl<'t> Reader<'t> {
         }
     }
 
-    /// Takes this word, in any ASCII case, if it is the first piece.
+    /// TakesExactly this word, in any ASCII case, if it is the first piece.
     pub fn takes_word(&mut self, word: &[u8]) -> bool
         ensures { Skips result self.old self.new (after (Word (map lower word.now)) self.old) }
     {
@@ -75,7 +75,7 @@ impl<'t> Reader<'t> {
         true
     }
 
-    /// Takes this symbol, if it is the first piece.
+    /// TakesExactly this symbol, if it is the first piece.
     pub fn takes_symbol(&mut self, symbol: Symbol) -> bool
         ensures { Skips result self.old self.new (after (Sign symbol) self.old) }
     {
@@ -89,9 +89,9 @@ impl<'t> Reader<'t> {
         true
     }
 
-    /// Takes this word, in any ASCII case.
+    /// TakesExactly this word, in any ASCII case.
     pub fn word(&mut self, word: &[u8]) -> Result<(), ReadFault>
-        ensures { Takes result (λ _. self.new) (after (Word (map lower word.now)) self.old) }
+        ensures { TakesExactly result (λ _. self.new) (after (Word (map lower word.now)) self.old) }
     {
         if self.takes_word(word) {
             Ok(())
@@ -100,9 +100,9 @@ impl<'t> Reader<'t> {
         }
     }
 
-    /// Takes this symbol.
+    /// TakesExactly this symbol.
     pub fn symbol(&mut self, symbol: Symbol) -> Result<(), ReadFault>
-        ensures { Takes result (λ _. self.new) (after (Sign symbol) self.old) }
+        ensures { TakesExactly result (λ _. self.new) (after (Sign symbol) self.old) }
     {
         if self.takes_symbol(symbol) {
             Ok(())
@@ -118,9 +118,9 @@ impl<'t> Reader<'t> {
         self.tokens.is_empty()
     }
 
-    /// Takes a semicolon, if there is one, and wants nothing behind it.
+    /// TakesExactly a semicolon, if there is one, and wants nothing behind it.
     pub fn end(&mut self) -> Result<(), ReadFault>
-        ensures { Takes result (λ _. tt) (end_of self.old) }
+        ensures { TakesExactly result (λ _. tt) (end_of self.old) }
     {
         let _ = self.takes_symbol(Symbol::Semicolon);
         if self.is_at_end() {
@@ -177,9 +177,9 @@ impl<'t> Reader<'t> {
         }
     }
 
-    /// Takes a name, and gives it in lower case.
+    /// TakesExactly a name, and gives it in lower case.
     pub fn name(&mut self, alloc: Global) -> Result<Str, ReadFault>
-        ensures { Takes result (λ name. (name, self.new)) (name_of self.old) }
+        ensures { TakesExactly result (λ name. (name, self.new)) (name_of self.old) }
     {
         let Some(first) = self.peek() else {
             return Err(ReadFault::Unread);
@@ -195,9 +195,9 @@ impl<'t> Reader<'t> {
         Ok(text_of(alloc, name.as_slice())?)
     }
 
-    /// Takes a number, and gives its digits.
+    /// TakesExactly a number, and gives its digits.
     pub fn number(&mut self) -> Result<&'t [u8], ReadFault>
-        ensures taken { Takes result (λ digits. (digits_value 10 digits.now, self.new)) (number_of self.old) }
+        ensures taken { TakesExactly result (λ digits. (digits_value 10 digits.now, self.new)) (number_of self.old) }
         ensures digits { IfOk result (λ digits. AllPass is_digit digits.now) }
     {
         let Some(first) = self.peek() else {

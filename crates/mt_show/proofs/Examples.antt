@@ -11,7 +11,7 @@ use Rattle.mt_tree.specs.declared.expression.Atom.{Atom}
 use Rattle.mt_tree.specs.declared.expression.Atom.TheVariants as atom
 use Rattle.mt_tree.specs.declared.expression.Cond.{Cond}
 use Rattle.mt_tree.specs.declared.expression.Cond.TheVariants as cond
-use Rattle.mt_printer.specs.Text.{text_of}
+use Rattle.mt_show.specs.Text.{text_of}
 use Rattle.mt_show.specs.declared.place.Place.TheVariants.{Whole, Outer, Inner}
 use Rattle.mt_show.specs.Shown.{cond_tokens}
 use Rattle.mt_show.proofs.PrintLevels.{or_placed, and_placed, not_placed, comparison_placed}

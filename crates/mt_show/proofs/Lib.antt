@@ -1,3 +1,8 @@
+pub mod Capitals
+pub mod Numerals
+pub mod Spelled
+pub mod Standing
+pub mod Joined
 pub mod Levels
 pub mod PrintLevels
 pub mod PrintSteps
@@ -10,3 +15,4 @@ pub mod ShownLevels
 pub mod ShownParts
 pub mod ShownSelect
 pub mod Examples
+pub mod Printed

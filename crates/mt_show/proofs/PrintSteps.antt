@@ -6,8 +6,8 @@ use Rattle.std.proofs.lemmas.List.Concat.{flat_map-append}
 use Rattle.std.specs.List.{flat_map}
 use Rattle.mt_lexer.specs.Tokens.{Lexeme}
 use Rattle.mt_terms.specs.Expression.{sign_of}
-use Rattle.mt_printer.specs.Spaced.{spaced}
-use Rattle.mt_printer.proofs.Joined.{spaced-append}
+use Rattle.mt_show.specs.Spaced.{spaced}
+use Rattle.mt_show.proofs.Joined.{spaced-append}
 use Rattle.mt_show.specs.Shown.{Places, between, sum_tokens, signed_tokens}
 use Rattle.mt_show.specs.Printing.{before_others}
 

@@ -16,7 +16,7 @@ use Rattle.mt_reader.specs.Forms.{Just, word}
 use Rattle.mt_reader.specs.Names.{IsName}
 use Rattle.mt_reader.specs.Literals.{SpellsLiteral}
 use Rattle.mt_terms.specs.Expression.{SpellsNamed, SpellsColumn, SpellsAgg, SpellsAtom, Called}
-use Rattle.mt_printer.specs.Text.{IsWritten}
+use Rattle.mt_show.specs.Text.{IsWritten}
 use Rattle.mt_show.specs.Shown.{literal_tokens, int_tokens, named_tokens, column_tokens, agg_tokens, atom_tokens, bracketed}
 use Rattle.mt_show.proofs.ShownForms.{Prints, Gives, Shows, written_one, written_bracketed, parts_give, bracketed_shows, behind_shows}
 

@@ -6,8 +6,8 @@ use Rattle.mt_lexer.specs.declared.token.Symbol.TheVariants as symbol
 use Rattle.mt_tree.specs.declared.statement.Stmt.TheVariants as stmt
 use Rattle.mt_reader.specs.Forms.{Commas, Bracketed, MaybeList, word}
 use Rattle.mt_reader.specs.Names.{IsName}
-use Rattle.mt_changes.specs.Change.{SpellsTuple, SpellsInsert, SpellsSet, SpellsUpdate, SpellsFilter, SpellsChange}
-use Rattle.mt_printer.specs.Text.{IsWritten}
+use Rattle.mt_statements.specs.Change.{SpellsTuple, SpellsInsert, SpellsSet, SpellsUpdate, SpellsFilter, SpellsChange}
+use Rattle.mt_show.specs.Text.{IsWritten}
 use Rattle.mt_show.specs.Shown.{literal_tokens, expr_tokens}
 use Rattle.mt_show.specs.Statements.{listed, clause_tokens, tuple_tokens, columns_tokens, insert_tokens, set_tokens, update_tokens, filter_tokens, statement_tokens}
 use Rattle.mt_show.proofs.ShownForms.{Shows, All-both, All-behind, nothing_gives, parts_give, bracketed_shows, behind_shows, written_one, written_between}

@@ -10,8 +10,8 @@ use Rattle.mt_tree.specs.declared.expression.Cond.{Cond}
 use Rattle.mt_tree.specs.declared.expression.Cond.TheVariants as cond
 use Rattle.mt_reader.specs.Forms.{Form, Joined, Bracketed, Behind, word}
 use Rattle.mt_terms.specs.Expression.{SpellsAtom}
-use Rattle.mt_terms.specs.Condition.{symbol_of, SpellsNot, AtomThen, NotThen, WordThen, SpellsPlain, SpellsNegated, SpellsOr, SpellsNeg, SpellsCond}
-use Rattle.mt_printer.specs.Text.{IsWritten}
+use Rattle.mt_terms.specs.Condition.{comparison_symbol, SpellsNot, AtomThen, NotThen, WordThen, SpellsPlain, SpellsNegated, SpellsOr, SpellsNeg, SpellsCond}
+use Rattle.mt_show.specs.Text.{IsWritten}
 use Rattle.mt_show.specs.Shown.{never_bracketed, between, atom_tokens, not_tokens, cond_places, cond_tokens}
 use Rattle.mt_show.specs.Printing.{comparison_tokens, membership_tokens, range_tokens, likeness_tokens, null_test_tokens}
 use Rattle.mt_show.proofs.Levels.{places_or, places_and, places_not, places_comparison, places_membership, places_range, places_likeness, places_null_test}
@@ -63,7 +63,7 @@ compare_shown : (op : Cmp) (left right : Atom) → IsPlainShown (cond.Compare op
 compare_shown op left right = record {
   tokens = comparison_tokens op left right;
   places = places_comparison op left right;
-  gives = atom_then left _ (behind_atom (Sign (symbol_of op)) tt right);
+  gives = atom_then left _ (behind_atom (Sign (comparison_symbol op)) tt right);
 }
 
 -- a list

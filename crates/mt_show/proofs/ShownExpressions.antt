@@ -8,7 +8,7 @@ use Rattle.mt_tree.specs.declared.expression.Expr.TheVariants as expr
 use Rattle.mt_tree.specs.declared.expression.Term.{Term}
 use Rattle.mt_reader.specs.Forms.{Form, Bracketed, Parts}
 use Rattle.mt_terms.specs.Expression.{SpellsAtomAlone, SpellsTerm, SpellsTail, SpellsSum, SpellsFactor, SpellsExpr, sign_of}
-use Rattle.mt_printer.specs.Text.{IsWritten}
+use Rattle.mt_show.specs.Text.{IsWritten}
 use Rattle.mt_show.specs.Shown.{between, atom_tokens, signed_tokens, sum_tokens, expr_places, expr_tokens}
 use Rattle.mt_show.proofs.ShownForms.{Gives, Shows, Grows, nothing_gives, written_inside, parts_give, behind_shows, bracketed_grows, behind_grows, joined_grows, written_one}
 use Rattle.mt_show.proofs.ShownAtoms.{atom_shows}

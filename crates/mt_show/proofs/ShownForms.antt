@@ -6,7 +6,7 @@ use Rattle.std.specs.List.{All}
 use Rattle.mt_lexer.specs.Tokens.{Lexeme, Sign}
 use Rattle.mt_lexer.specs.declared.token.Symbol.TheVariants as symbol
 use Rattle.mt_reader.specs.Forms.{Form, Separated, Joined, Bracketed, Behind, Parts, Just}
-use Rattle.mt_printer.specs.Text.{IsWritten}
+use Rattle.mt_show.specs.Text.{IsWritten}
 use Rattle.mt_show.specs.Shown.{between, bracketed}
 
 -- these tokens spell the tree, and each can be written

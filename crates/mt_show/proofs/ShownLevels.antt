@@ -3,7 +3,7 @@ use Rattle.std.proofs.Common.{◌≡◌, List, map, refl, sym, subst, inr}
 use Rattle.std.specs.List.{All}
 use Rattle.mt_lexer.specs.Tokens.{Lexeme}
 use Rattle.mt_reader.specs.Forms.{Form, Joined, Many, Bracketed}
-use Rattle.mt_printer.specs.Text.{IsWritten}
+use Rattle.mt_show.specs.Text.{IsWritten}
 use Rattle.mt_show.specs.Shown.{Places, never_bracketed, bracketed_inside, bracketed_as_member, between, bracketed}
 use Rattle.mt_show.proofs.ShownForms.{Prints, Shows, Grows, separated_shows, written_bracketed}
 

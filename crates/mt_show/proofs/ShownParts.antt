@@ -9,8 +9,8 @@ use Rattle.mt_reader.specs.Forms.{Form, Commas, Behind, Maybe, MaybeList, Flag, 
 use Rattle.mt_reader.specs.Names.{IsName}
 use Rattle.mt_terms.specs.Expression.{SpellsColumn}
 use Rattle.mt_terms.specs.Condition.{SpellsCond}
-use Rattle.mt_query.specs.Query.{SpellsItem, SpellsItems, SpellsAlias, SpellsTable, SpellsFollowing, SpellsMore, SpellsRefs, SpellsBy, SpellsDirection, SpellsKey, SpellsNumber}
-use Rattle.mt_printer.specs.Text.{IsWritten}
+use Rattle.mt_statements.specs.Query.{SpellsItem, SpellsItems, SpellsAlias, SpellsTable, SpellsFollowing, SpellsMore, SpellsRefs, SpellsBy, SpellsDirection, SpellsKey, SpellsNumber}
+use Rattle.mt_show.specs.Text.{IsWritten}
 use Rattle.mt_show.specs.Shown.{column_tokens, cond_tokens, expr_tokens}
 use Rattle.mt_show.specs.Statements.{listed, clause_tokens, as_tokens, item_tokens, items_tokens, table_tokens, following_tokens, refs_tokens, group_tokens, by_tokens, direction_tokens, key_tokens, order_tokens, limit_tokens, distinct_tokens}
 use Rattle.mt_show.proofs.ShownForms.{Shows, nothing_gives, All-back, parts_give, behind_shows, separated_shows, written_one}

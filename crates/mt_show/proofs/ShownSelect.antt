@@ -3,8 +3,8 @@ use Rattle.std.proofs.Common.{List, [], ◌∷◌, ◌++◌, refl, codes}
 use Rattle.std.proofs.lemmas.List.Elements.{All-cons, All-tail, All-append}
 use Rattle.std.specs.List.{All}
 use Rattle.mt_lexer.specs.Tokens.{Lexeme, Word}
-use Rattle.mt_query.specs.Query.{SpellsSelect}
-use Rattle.mt_printer.specs.Text.{IsWritten}
+use Rattle.mt_statements.specs.Query.{SpellsSelect}
+use Rattle.mt_show.specs.Text.{IsWritten}
 use Rattle.mt_show.specs.Statements.{clause_tokens, items_tokens, refs_tokens, group_tokens, order_tokens, limit_tokens, distinct_tokens, select_tokens}
 use Rattle.mt_show.proofs.ShownForms.{Shows, All-both, All-behind, written_between}
 use Rattle.mt_show.proofs.ShownAtoms.{keyword}

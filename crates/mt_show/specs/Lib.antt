@@ -1,3 +1,5 @@
 pub mod Shown
+pub mod Spaced
+pub mod Text
 pub mod Statements
 pub mod Printing

@@ -7,7 +7,7 @@ use Rattle.mt_value.specs.declared.truth.Cmp.{Cmp}
 use Rattle.mt_tree.specs.declared.expression.Atom.{Atom}
 use Rattle.mt_tree.specs.declared.statement.Select.{Select}
 use Rattle.mt_reader.specs.Forms.{word}
-use Rattle.mt_terms.specs.Condition.{symbol_of}
+use Rattle.mt_terms.specs.Condition.{comparison_symbol}
 use Rattle.mt_show.specs.Shown.{Places, between, bracketed, atom_tokens, not_tokens}
 use Rattle.mt_show.specs.Statements.{clause_tokens, group_tokens, order_tokens, limit_tokens}
 use Rattle.mt_show.specs.declared.place.Place.{Place}
@@ -41,7 +41,7 @@ before_others index lexeme = if index == 0 then [] else lexeme ∷ []
 
 -- two atoms with a comparison between
 abbrev pub comparison_tokens : Cmp → Atom → Atom → List Lexeme
-comparison_tokens op left right = atom_tokens left ++ Sign (symbol_of op) ∷ atom_tokens right
+comparison_tokens op left right = atom_tokens left ++ Sign (comparison_symbol op) ∷ atom_tokens right
 
 -- an atom, and that it is one of a list
 abbrev pub membership_tokens : Bool → Atom → List Atom → List Lexeme

@@ -17,7 +17,7 @@ use Rattle.mt_tree.specs.declared.expression.Cond.TheOpen.{Cond-F}
 use Rattle.mt_tree.specs.declared.expression.Cond.TheFolds.{fold-Cond}
 use Rattle.mt_reader.specs.Forms.{word}
 use Rattle.mt_terms.specs.Expression.{sign_of}
-use Rattle.mt_terms.specs.Condition.{symbol_of}
+use Rattle.mt_terms.specs.Condition.{comparison_symbol}
 
 -- the lists one behind the other, with the separator between each and the next
 abbrev pub between : Lexeme → List (List Lexeme) → List Lexeme
@@ -121,7 +121,7 @@ abbrev pub cond_places_step : Cond-F Places → Places
 cond_places_step (Cond-F.Or members) = bracketed_as_member (between (Word (codes "or")) (map (λ member. member.outer) members))
 cond_places_step (Cond-F.And members) = bracketed_inside (between (Word (codes "and")) (map (λ member. member.inner) members))
 cond_places_step (Cond-F.Not inner) = never_bracketed (Word (codes "not") ∷ inner.inner)
-cond_places_step (Cond-F.Compare op left right) = never_bracketed (atom_tokens left ++ Sign (symbol_of op) ∷ atom_tokens right)
+cond_places_step (Cond-F.Compare op left right) = never_bracketed (atom_tokens left ++ Sign (comparison_symbol op) ∷ atom_tokens right)
 cond_places_step (Cond-F.Member negated atom list) = never_bracketed (atom_tokens atom ++ not_tokens negated ++ Word (codes "in") ∷ bracketed (between (Sign symbol.Comma) (map atom_tokens list)))
 cond_places_step (Cond-F.Between negated atom low high) = never_bracketed (atom_tokens atom ++ not_tokens negated ++ Word (codes "between") ∷ (atom_tokens low ++ Word (codes "and") ∷ atom_tokens high))
 cond_places_step (Cond-F.Like negated atom pattern) = never_bracketed (atom_tokens atom ++ not_tokens negated ++ Word (codes "like") ∷ atom_tokens pattern)

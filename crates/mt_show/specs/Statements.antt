@@ -18,7 +18,7 @@ use Rattle.mt_tree.specs.declared.statement.Insert.{Insert}
 use Rattle.mt_tree.specs.declared.statement.Update.{Update}
 use Rattle.mt_tree.specs.declared.statement.SetItem.{SetItem}
 use Rattle.mt_tree.specs.declared.statement.Filter.{Filter}
-use Rattle.mt_printer.specs.Text.{text_of}
+use Rattle.mt_show.specs.Text.{text_of}
 use Rattle.mt_reader.specs.Forms.{word}
 use Rattle.mt_show.specs.Shown.{between, bracketed, literal_tokens, column_tokens, expr_tokens, cond_tokens}
 

@@ -5,11 +5,14 @@
 mod laws;
 mod part;
 mod place;
+mod printer;
+mod printing;
 mod statement;
 mod terms;
 
-pub use laws::shown_statements_are_spelled;
-pub use statement::show;
+pub use laws::{printed_tokens_are_read, shown_statements_are_spelled};
+pub use printer::Printer;
+pub use printing::show;
 
 #[cfg(test)]
 mod tests;

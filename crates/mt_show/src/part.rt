@@ -1,13 +1,13 @@
-#![tactic(auto, unfolding(mt_printer::specs::Spaced::spaced))]
+#![tactic(auto, unfolding(crate::specs::Spaced::spaced))]
 
 ghost use Rattle.std.specs.Prelude.{◌≡◌, ◌∷◌, [], ◌++◌, List, map, OnOk};
 ghost use Rattle.mt_lexer.specs.Tokens.{Lexeme, Word, Sign};
-ghost use Rattle.mt_printer.specs.Spaced.{spaced};
+ghost use Rattle.mt_show.specs.Spaced.{spaced};
 ghost use Rattle.mt_show.specs.Printing.{where_needed, before_others};
 ghost use Rattle.mt_show.specs.Statements.{listed};
 
 use mt_lexer::Symbol;
-use mt_printer::Printer;
+use crate::printer::Printer;
 use std::alloc::AllocError;
 
 /// A part of a statement, as a member of a list.

@@ -1,7 +1,7 @@
-#![tactic(auto, unfolding(mt_printer::specs::Spaced::spaced))]
+#![tactic(auto, unfolding(crate::specs::Spaced::spaced))]
 
 ghost use Rattle.std.specs.Prelude.{◌≡◌, ◌++◌, flat_map, IfOk, OnOk};
-ghost use Rattle.mt_printer.specs.Spaced.{spaced};
+ghost use Rattle.mt_show.specs.Spaced.{spaced};
 ghost use Rattle.mt_show.specs.Printing.{clauses_tokens};
 ghost use Rattle.mt_show.specs.Statements.{clause_tokens, as_tokens, items_tokens, table_tokens, following_tokens, refs_tokens, group_tokens, by_tokens, direction_tokens, order_tokens, limit_tokens, distinct_tokens, select_tokens, columns_tokens, insert_tokens, update_tokens, filter_tokens, statement_tokens, statement_text};
 
@@ -9,7 +9,7 @@ use crate::part::{Part, listed};
 use crate::place::Place;
 use crate::terms::{condition, expression};
 use mt_lexer::Symbol;
-use mt_printer::Printer;
+use crate::printer::Printer;
 use mt_tree::{
     ColName, Cond, Filter, Insert, Item, OrderBy, OrderKey, Ref, Select, SetItem, Stmt, Tuple,
     Update,
@@ -19,7 +19,7 @@ use std::alloc::{AllocError, Global};
 
 /// Prints a statement in its one spelling: tokens with one space between, reserved words in upper
 /// case, brackets only where the tree needs them. `AllocError` is want of memory.
-pub fn show(alloc: Global, statement: &Stmt) -> Result<Str, AllocError>
+pub(crate) fn print(alloc: Global, statement: &Stmt) -> Result<Str, AllocError>
     ensures { IfOk result (λ text. text ≡ statement_text statement.now) }
 {
     let mut printer = Printer::new(alloc);

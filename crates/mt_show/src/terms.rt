@@ -1,11 +1,11 @@
-#![tactic(auto, unfolding(mt_printer::specs::Spaced::spaced))]
+#![tactic(auto, unfolding(crate::specs::Spaced::spaced))]
 
 ghost use Rattle.std.specs.Prelude.{◌≡◌, ◌∷◌, ◌++◌, map, OnOk};
 ghost use Rattle.mt_lexer.specs.Tokens.{Word, Sign};
 ghost use Rattle.mt_lexer.specs.declared.token.Symbol.TheVariants as symbol;
-ghost use Rattle.mt_printer.specs.Spaced.{spaced};
+ghost use Rattle.mt_show.specs.Spaced.{spaced};
 ghost use Rattle.mt_terms.specs.Expression.{sign_of};
-ghost use Rattle.mt_terms.specs.Condition.{symbol_of};
+ghost use Rattle.mt_terms.specs.Condition.{comparison_symbol};
 ghost use Rattle.mt_show.specs.Printing.{placed, comparison_tokens, membership_tokens, range_tokens, likeness_tokens, null_test_tokens};
 ghost use Rattle.mt_show.specs.declared.place.Place.TheVariants.{Inner};
 ghost use Rattle.mt_show.specs.Shown.{between, bracketed, int_tokens, column_tokens, agg_tokens, expr_places, sum_tokens, cond_places, not_tokens};
@@ -13,7 +13,7 @@ ghost use Rattle.mt_show.specs.Shown.{between, bracketed, int_tokens, column_tok
 use crate::part::{Part, bracket, listed, symbol_between, word_between};
 use crate::place::Place;
 use mt_lexer::Symbol;
-use mt_printer::Printer;
+use crate::printer::Printer;
 use mt_tree::{Agg, Atom, ColName, Cond, Expr, Literal, Term};
 use mt_value::Cmp;
 use std::alloc::AllocError;
@@ -217,7 +217,7 @@ fn comparison(printer: &mut Printer, op: Cmp, left: &Atom, right: &Atom) -> Resu
     ensures { OnOk result (printer.new ≡ printer.old ++ spaced (comparison_tokens op left.now right.now)) }
 {
     left.print(printer)?;
-    printer.symbol(symbol_of(op))?;
+    printer.symbol(comparison_symbol(op))?;
     right.print(printer)
 }
 
@@ -292,8 +292,8 @@ fn negation(printer: &mut Printer, negated: bool) -> Result<(), AllocError>
 }
 
 /// How a comparison is written.
-fn symbol_of(op: Cmp) -> Symbol
-    ensures { result ≡ symbol_of op }
+fn comparison_symbol(op: Cmp) -> Symbol
+    ensures { result ≡ comparison_symbol op }
 {
     match op {
         Cmp::Eq => Symbol::Equal,

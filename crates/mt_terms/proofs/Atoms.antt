@@ -10,7 +10,8 @@ use Rattle.mt_tree.specs.declared.expression.Agg.{Agg}
 use Rattle.mt_tree.specs.declared.expression.Agg.TheVariants as agg
 use Rattle.mt_tree.specs.declared.expression.Atom.{Atom}
 use Rattle.mt_tree.specs.declared.expression.Atom.TheVariants as atom
-use Rattle.mt_reader.specs.Descent.{after, name_of, number_of, literal_of, is_reserved_name, begins_with_name, begins_with_word, closed_of, bracketed_of}
+use Rattle.mt_reader.specs.Descent.{after, name_of, number_of, literal_of, begins_with_name, begins_with_word, closed_of, bracketed_of}
+use Rattle.mt_lexer.specs.Reserved.{is_reserved_name}
 use Rattle.mt_reader.specs.Forms.{Bracketed}
 use Rattle.mt_reader.specs.Fronts.{Begins}
 use Rattle.mt_reader.specs.Literals.{SpellsLiteral}

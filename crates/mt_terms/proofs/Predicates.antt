@@ -15,14 +15,14 @@ use Rattle.mt_reader.proofs.Shrinking.{bind_some, same_tree, same_rest}
 use Rattle.mt_reader.proofs.Spelling.{IsSound, IsCompleteBefore, after_is}
 use Rattle.mt_terms.specs.declared.test.Test.{Test}
 use Rattle.mt_terms.specs.declared.test.Test.TheVariants as test
-use Rattle.mt_terms.specs.Condition.{symbol_of, SpellsNot, AtomThen, NotThen, WordThen}
+use Rattle.mt_terms.specs.Condition.{comparison_symbol, SpellsNot, AtomThen, NotThen, WordThen}
 use Rattle.mt_terms.specs.Expression.{SpellsAtom}
 use Rattle.mt_terms.specs.Descent.{atom_of, cmp_of, compare_of, member_of, between_of, like_of, between_behind, in_behind, worded_of, null_of, not_null_behind, tested_of, not_behind, is_behind, compare_behind, test_of}
 use Rattle.mt_terms.proofs.Atoms.{NoDot, atom_sound, atom_complete, atom_shrinks}
 
 -- what stands behind the first atom of a predicate
 abbrev pub SpellsTest : List Lexeme → Test → Type 0
-SpellsTest tokens (test.Compare op right) = Behind (Sign (symbol_of op) ∷ []) SpellsAtom tokens right
+SpellsTest tokens (test.Compare op right) = Behind (Sign (comparison_symbol op) ∷ []) SpellsAtom tokens right
 SpellsTest tokens (test.Member negated list) = NotThen negated (WordThen (codes "in") (λ back. Bracketed (Commas SpellsAtom) back list)) tokens
 SpellsTest tokens (test.Between negated low high) = NotThen negated (WordThen (codes "between") (AtomThen low (λ back. Behind (Word (codes "and") ∷ []) SpellsAtom back high))) tokens
 SpellsTest tokens (test.Like negated pattern) = NotThen negated (λ back. Behind (Word (codes "like") ∷ []) SpellsAtom back pattern) tokens
@@ -31,13 +31,13 @@ SpellsTest tokens (test.IsNull negated) = WordThen (codes "is") (NotThen negated
 -- comparisons
 
 -- a symbol that compares is the one of its comparison
-symbol_is : (s : Symbol) (op : Cmp) → cmp_of s ≡ Some op → s ≡ symbol_of op
-symbol_is symbol.Equal op e = let same : Eq ≡ op = cc in ap symbol_of same
-symbol_is symbol.NotEqual op e = let same : Ne ≡ op = cc in ap symbol_of same
-symbol_is symbol.Less op e = let same : Lt ≡ op = cc in ap symbol_of same
-symbol_is symbol.LessEqual op e = let same : Le ≡ op = cc in ap symbol_of same
-symbol_is symbol.Greater op e = let same : Gt ≡ op = cc in ap symbol_of same
-symbol_is symbol.GreaterEqual op e = let same : Ge ≡ op = cc in ap symbol_of same
+symbol_is : (s : Symbol) (op : Cmp) → cmp_of s ≡ Some op → s ≡ comparison_symbol op
+symbol_is symbol.Equal op e = let same : Eq ≡ op = cc in ap comparison_symbol same
+symbol_is symbol.NotEqual op e = let same : Ne ≡ op = cc in ap comparison_symbol same
+symbol_is symbol.Less op e = let same : Lt ≡ op = cc in ap comparison_symbol same
+symbol_is symbol.LessEqual op e = let same : Le ≡ op = cc in ap comparison_symbol same
+symbol_is symbol.Greater op e = let same : Gt ≡ op = cc in ap comparison_symbol same
+symbol_is symbol.GreaterEqual op e = let same : Ge ≡ op = cc in ap comparison_symbol same
 symbol_is symbol.Open op e = cc
 symbol_is symbol.Close op e = cc
 symbol_is symbol.Comma op e = cc
@@ -48,13 +48,13 @@ symbol_is symbol.Minus op e = cc
 symbol_is symbol.Semicolon op e = cc
 
 -- and the other way round
-cmp_of-symbol_of : (op : Cmp) → cmp_of (symbol_of op) ≡ Some op
-cmp_of-symbol_of Eq = refl
-cmp_of-symbol_of Ne = refl
-cmp_of-symbol_of Lt = refl
-cmp_of-symbol_of Le = refl
-cmp_of-symbol_of Gt = refl
-cmp_of-symbol_of Ge = refl
+cmp_of-comparison_symbol : (op : Cmp) → cmp_of (comparison_symbol op) ≡ Some op
+cmp_of-comparison_symbol Eq = refl
+cmp_of-comparison_symbol Ne = refl
+cmp_of-comparison_symbol Lt = refl
+cmp_of-comparison_symbol Le = refl
+cmp_of-comparison_symbol Gt = refl
+cmp_of-comparison_symbol Ge = refl
 
 -- the symbol that comes first stands first
 first_symbol_is : (lexemes : List Lexeme) (s : Symbol) → first_symbol lexemes ≡ Some s → lexemes ≡ Sign s ∷ drop 1 lexemes
@@ -65,20 +65,20 @@ first_symbol_is (Quoted text ∷ rest) s e = cc
 first_symbol_is (Sign sign ∷ rest) s e = let same : sign ≡ s = cc in ap (λ t. Sign t ∷ rest) same
 
 -- a comparison is one lexeme
-compare_is : (lexemes rest : List Lexeme) (op : Cmp) → compare_of lexemes ≡ Some (op, rest) → lexemes ≡ Sign (symbol_of op) ∷ rest
+compare_is : (lexemes rest : List Lexeme) (op : Cmp) → compare_of lexemes ≡ Some (op, rest) → lexemes ≡ Sign (comparison_symbol op) ∷ rest
 unfolding compare_of
 compare_is lexemes rest op e =
     let a = bind_some (first_symbol lexemes) _ (op, rest) e in
     let b = bind_some (cmp_of a.0) _ (op, rest) a.2 in
     first_symbol_is lexemes a.0 a.1
     ∙ ap (λ s. Sign s ∷ drop 1 lexemes) (symbol_is a.0 b.0 b.1)
-    ∙ ap (λ op. Sign (symbol_of op) ∷ drop 1 lexemes) (same_tree b.2)
-    ∙ ap (λ ls. Sign (symbol_of op) ∷ ls) (same_rest b.2)
+    ∙ ap (λ op. Sign (comparison_symbol op) ∷ drop 1 lexemes) (same_tree b.2)
+    ∙ ap (λ ls. Sign (comparison_symbol op) ∷ ls) (same_rest b.2)
 
 -- a comparison is read
-compare_read : (op : Cmp) (rest : List Lexeme) → compare_of (Sign (symbol_of op) ∷ rest) ≡ Some (op, rest)
+compare_read : (op : Cmp) (rest : List Lexeme) → compare_of (Sign (comparison_symbol op) ∷ rest) ≡ Some (op, rest)
 unfolding compare_of
-compare_read op rest = rw (cmp_of-symbol_of op) refl
+compare_read op rest = rw (cmp_of-comparison_symbol op) refl
 
 -- what is read is spelled so
 
@@ -220,10 +220,10 @@ test_sound lexemes rest t e = by_compare (compare_of lexemes) refl e where
   by_compare (Some sign) a e =
       let b = bind_some (atom_of sign.1) _ (t, rest) e in
       let s = atom_sound sign.1 b.0.1 b.0.0 b.1 in
-      let front = Sign (symbol_of sign.0) ∷ s.front in
+      let front = Sign (comparison_symbol sign.0) ∷ s.front in
       record {
         front = front;
-        whole = compare_is lexemes sign.1 sign.0 a ∙ ap (λ ls. Sign (symbol_of sign.0) ∷ ls) (s.whole ∙ ap (λ ls. s.front ++ ls) (same_rest b.2));
+        whole = compare_is lexemes sign.1 sign.0 a ∙ ap (λ ls. Sign (comparison_symbol sign.0) ∷ ls) (s.whole ∙ ap (λ ls. s.front ++ ls) (same_rest b.2));
         spelled = subst (SpellsTest front) (same_tree b.2) (record { inner = s.front; prefix = refl; body = s.spelled });
       }
   by_compare None a e = by_is (after (Word (codes "is")) lexemes) refl e
@@ -254,7 +254,7 @@ unfolding test_of compare_of worded_of after
 like_test negated front rest s = flagged_test (codes "like") (λ rest. refl) negated front rest s
 
 -- a comparison is read as a test
-compare_complete : (op : Cmp) (rest more : List Lexeme) (right : Atom) → atom_of rest ≡ Some (right, more) → test_of (Sign (symbol_of op) ∷ rest) ≡ Some (test.Compare op right, more)
+compare_complete : (op : Cmp) (rest more : List Lexeme) (right : Atom) → atom_of rest ≡ Some (right, more) → test_of (Sign (comparison_symbol op) ∷ rest) ≡ Some (test.Compare op right, more)
 unfolding test_of
 compare_complete op rest more right read = rw (compare_read op rest, read) refl
 
@@ -323,7 +323,7 @@ flag_ends false front back more s end whole e = rw (e, s) end
 pub test_ends : (back more : List Lexeme) (t : Test) → SpellsTest back t → NoDot (back ++ more)
 unfolding after
 test_ends back more (test.Compare op right) s = rw s.prefix (no_dot op) where
-  no_dot : (op : Cmp) → NoDot (Sign (symbol_of op) ∷ (s.inner ++ more))
+  no_dot : (op : Cmp) → NoDot (Sign (comparison_symbol op) ∷ (s.inner ++ more))
   no_dot Eq = refl
   no_dot Ne = refl
   no_dot Lt = refl

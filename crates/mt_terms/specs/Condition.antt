@@ -12,13 +12,13 @@ use Rattle.mt_reader.specs.Forms.{Form, Joined, Commas, Bracketed, Behind, Parts
 use Rattle.mt_terms.specs.Expression.{SpellsAtom}
 
 -- '=' | '<>' | '<' | '<=' | '>' | '>='
-abbrev pub symbol_of : Cmp → Symbol
-symbol_of Eq = Equal
-symbol_of Ne = NotEqual
-symbol_of Lt = Less
-symbol_of Le = LessEqual
-symbol_of Gt = Greater
-symbol_of Ge = GreaterEqual
+abbrev pub comparison_symbol : Cmp → Symbol
+comparison_symbol Eq = Equal
+comparison_symbol Ne = NotEqual
+comparison_symbol Lt = Less
+comparison_symbol Le = LessEqual
+comparison_symbol Gt = Greater
+comparison_symbol Ge = GreaterEqual
 
 -- NOT, where the predicate is negated
 abbrev pub SpellsNot : List Lexeme → Bool → Type 0
@@ -39,7 +39,7 @@ WordThen word more tokens = Parts (Just (Word word ∷ [])) more tokens
 -- atom cmp atom | atom [NOT] IN '(' atom {',' atom} ')' | atom [NOT] BETWEEN atom AND atom
 -- | atom [NOT] LIKE atom | atom IS [NOT] NULL
 abbrev pub SpellsPlain : List Lexeme → Cond → Type 0
-SpellsPlain tokens (cond.Compare op left right) = AtomThen left (λ back. Behind (Sign (symbol_of op) ∷ []) SpellsAtom back right) tokens
+SpellsPlain tokens (cond.Compare op left right) = AtomThen left (λ back. Behind (Sign (comparison_symbol op) ∷ []) SpellsAtom back right) tokens
 SpellsPlain tokens (cond.Member negated atom list) = AtomThen atom (NotThen negated (WordThen (codes "in") (λ back. Bracketed (Commas SpellsAtom) back list))) tokens
 SpellsPlain tokens (cond.Between negated atom low high) = AtomThen atom (NotThen negated (WordThen (codes "between") (AtomThen low (λ back. Behind (Word (codes "and") ∷ []) SpellsAtom back high)))) tokens
 SpellsPlain tokens (cond.Like negated atom pattern) = AtomThen atom (NotThen negated (λ back. Behind (Word (codes "like") ∷ []) SpellsAtom back pattern)) tokens

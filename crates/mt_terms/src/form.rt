@@ -2,14 +2,14 @@ use crate::leaf::atom;
 use crate::logic::condition;
 use crate::name::column;
 use crate::sum::expression;
-use mt_reader::{Item, ReadFault, Reader};
+use mt_reader::{Production, ReadFault, Reader};
 use mt_tree::{Atom, ColName, Cond, Expr};
 use std::alloc::Global;
 
 /// A column, as an item of a list.
 pub enum ColumnForm {}
 
-impl Item for ColumnForm {
+impl Production for ColumnForm {
     ghost use Rattle.mt_terms.specs.Descent.{column_of};
 
     type Tree = ColName;
@@ -26,7 +26,7 @@ impl Item for ColumnForm {
 /// An atom, as an item of a list.
 pub enum AtomForm {}
 
-impl Item for AtomForm {
+impl Production for AtomForm {
     ghost use Rattle.mt_terms.specs.Descent.{atom_of};
     ghost use Rattle.mt_terms.specs.Inside.{IsAtomInside};
 
@@ -44,7 +44,7 @@ impl Item for AtomForm {
 /// An expression, as an item of a list.
 pub enum ExpressionForm {}
 
-impl Item for ExpressionForm {
+impl Production for ExpressionForm {
     ghost use Rattle.mt_terms.specs.Descent.{expr_of};
     ghost use Rattle.mt_terms.specs.Inside.{IsExprInside};
 
@@ -62,7 +62,7 @@ impl Item for ExpressionForm {
 /// A condition, as what stands behind WHERE, ON or HAVING.
 pub enum ConditionForm {}
 
-impl Item for ConditionForm {
+impl Production for ConditionForm {
     ghost use Rattle.mt_terms.specs.Descent.{cond_of};
     ghost use Rattle.mt_terms.specs.Inside.{IsCondInside};
 

@@ -1,5 +1,5 @@
 ghost use Rattle.std.specs.Prelude.{◌≡◌};
-ghost use Rattle.mt_reader.specs.Taken.{Takes};
+ghost use Rattle.mt_reader.specs.Taken.{TakesExactly};
 ghost use Rattle.mt_terms.specs.Descent.{counted_of, agg_of};
 
 use crate::name::{argument, column};
@@ -8,10 +8,10 @@ use mt_reader::{ReadFault, Reader};
 use mt_tree::Agg;
 use std::alloc::Global;
 
-/// Takes an aggregate.
+/// TakesExactly an aggregate.
 #[tactic(auto, unfolding(crate::specs::Descent::agg_of))]
 pub(crate) fn aggregate(alloc: Global, reader: &mut Reader<'_>) -> Result<Agg, ReadFault>
-    ensures { Takes result (λ agg. (agg, reader.new)) (agg_of reader.old) }
+    ensures { TakesExactly result (λ agg. (agg, reader.new)) (agg_of reader.old) }
 {
     if reader.takes_word(b"count") {
         return counted(alloc, reader);
@@ -26,10 +26,10 @@ pub(crate) fn aggregate(alloc: Global, reader: &mut Reader<'_>) -> Result<Agg, R
     Ok(Agg::Max(argument(alloc, reader)?))
 }
 
-/// Takes what stands behind COUNT: the star or a column, in brackets.
+/// TakesExactly what stands behind COUNT: the star or a column, in brackets.
 #[tactic(auto, unfolding(crate::specs::Descent::counted_of))]
 fn counted(alloc: Global, reader: &mut Reader<'_>) -> Result<Agg, ReadFault>
-    ensures { Takes result (λ agg. (agg, reader.new)) (counted_of reader.old) }
+    ensures { TakesExactly result (λ agg. (agg, reader.new)) (counted_of reader.old) }
 {
     reader.symbol(Symbol::Open)?;
     if reader.takes_symbol(Symbol::Star) {

@@ -5,11 +5,11 @@ ghost use Rattle.mt_terms.specs.Inside.{IsAtomInside};
 
 use crate::function::aggregate;
 use crate::name::column;
-use mt_reader::{Item, LiteralForm, ReadFault, Reader};
+use mt_reader::{Production, LiteralForm, ReadFault, Reader};
 use mt_tree::{Atom, Literal};
 use std::alloc::Global;
 
-/// Takes an atom; `None` is for a number outside 64 bits, here and below.
+/// TakesExactly an atom; `None` is for a number outside 64 bits, here and below.
 #[tactic(auto, unfolding(crate::specs::Descent::atom_of))]
 pub(crate) fn atom(alloc: Global, reader: &mut Reader<'_>) -> Result<Option<Atom>, ReadFault>
     ensures { TakesInside IsAtomInside result reader.new (atom_of reader.old) }
@@ -23,7 +23,7 @@ pub(crate) fn atom(alloc: Global, reader: &mut Reader<'_>) -> Result<Option<Atom
     literal_atom(alloc, reader)
 }
 
-/// Takes a column.
+/// TakesExactly a column.
 #[tactic(auto, unfolding(crate::specs::Descent::column_atom_of))]
 fn column_atom(alloc: Global, reader: &mut Reader<'_>) -> Result<Option<Atom>, ReadFault>
     ensures { TakesInside IsAtomInside result reader.new (column_atom_of reader.old) }
@@ -32,7 +32,7 @@ fn column_atom(alloc: Global, reader: &mut Reader<'_>) -> Result<Option<Atom>, R
     Ok(Some(Atom::Column(column)))
 }
 
-/// Takes NULL or an aggregate.
+/// TakesExactly NULL or an aggregate.
 #[tactic(auto, unfolding(crate::specs::Descent::reserved_atom_of))]
 fn reserved_atom(alloc: Global, reader: &mut Reader<'_>) -> Result<Option<Atom>, ReadFault>
     ensures { TakesInside IsAtomInside result reader.new (reserved_atom_of reader.old) }
@@ -44,7 +44,7 @@ fn reserved_atom(alloc: Global, reader: &mut Reader<'_>) -> Result<Option<Atom>,
     Ok(Some(Atom::Agg(found)))
 }
 
-/// Takes a number or a text.
+/// TakesExactly a number or a text.
 #[tactic(auto, unfolding(crate::specs::Descent::literal_atom_of))]
 fn literal_atom(alloc: Global, reader: &mut Reader<'_>) -> Result<Option<Atom>, ReadFault>
     ensures { TakesInside IsAtomInside result reader.new (literal_atom_of reader.old) }

@@ -1,6 +1,6 @@
 ghost use Rattle.std.specs.Prelude.{◌≡◌, []};
 ghost use Rattle.mt_reader.specs.Fronts.{TakesFront, BeginsWithNone};
-ghost use Rattle.mt_reader.specs.Taken.{Keeps, Takes, TakesInside};
+ghost use Rattle.mt_reader.specs.Taken.{Keeps, TakesExactly, TakesInside};
 ghost use Rattle.mt_terms.specs.Condition.{SpellsCond};
 ghost use Rattle.mt_terms.specs.Descent.{column_of, agg_of, atom_of, expr_of, cond_of};
 ghost use Rattle.mt_terms.specs.Expression.{SpellsColumn, SpellsAgg, SpellsAtom, SpellsExpr};
@@ -16,24 +16,24 @@ use mt_reader::{ReadFault, Reader};
 use mt_tree::{Agg, Atom, ColName, Cond, Expr};
 use std::alloc::Global;
 
-/// Takes a column: a name, perhaps with a table's name and a dot in front. The second clause, here
+/// TakesExactly a column: a name, perhaps with a table's name and a dot in front. The second clause, here
 /// and below, is for the readers of longer forms.
 pub fn read_column(alloc: Global, reader: &mut Reader<'_>) -> Result<ColName, ReadFault>
     ensures spelled { TakesFront SpellsColumn (BeginsWithNone atom_goes_on) (λ column tree. column ≡ tree) result reader.old reader.new }
-    ensures taken { Takes result (λ column. (column, reader.new)) (column_of reader.old) }
+    ensures taken { TakesExactly result (λ column. (column, reader.new)) (column_of reader.old) }
 {
     column(alloc, reader)
 }
 
-/// Takes an aggregate.
+/// TakesExactly an aggregate.
 pub fn read_aggregate(alloc: Global, reader: &mut Reader<'_>) -> Result<Agg, ReadFault>
     ensures spelled { TakesFront SpellsAgg (BeginsWithNone []) (λ agg tree. agg ≡ tree) result reader.old reader.new }
-    ensures taken { Takes result (λ agg. (agg, reader.new)) (agg_of reader.old) }
+    ensures taken { TakesExactly result (λ agg. (agg, reader.new)) (agg_of reader.old) }
 {
     aggregate(alloc, reader)
 }
 
-/// Takes an atom; `None` is one with a number outside 64 bits, here and below.
+/// TakesExactly an atom; `None` is one with a number outside 64 bits, here and below.
 pub fn read_atom(alloc: Global, reader: &mut Reader<'_>) -> Result<Option<Atom>, ReadFault>
     ensures spelled { TakesFront SpellsAtom (BeginsWithNone atom_goes_on) (Keeps IsAtomInside) result reader.old reader.new }
     ensures taken { TakesInside IsAtomInside result reader.new (atom_of reader.old) }
@@ -41,7 +41,7 @@ pub fn read_atom(alloc: Global, reader: &mut Reader<'_>) -> Result<Option<Atom>,
     atom(alloc, reader)
 }
 
-/// Takes an expression.
+/// TakesExactly an expression.
 pub fn read_expression(alloc: Global, reader: &mut Reader<'_>) -> Result<Option<Expr>, ReadFault>
     ensures spelled { TakesFront SpellsExpr (BeginsWithNone expr_goes_on) (Keeps IsExprInside) result reader.old reader.new }
     ensures taken { TakesInside IsExprInside result reader.new (expr_of reader.old) }
@@ -49,7 +49,7 @@ pub fn read_expression(alloc: Global, reader: &mut Reader<'_>) -> Result<Option<
     expression(alloc, reader)
 }
 
-/// Takes a condition.
+/// TakesExactly a condition.
 pub fn read_condition(alloc: Global, reader: &mut Reader<'_>) -> Result<Option<Cond>, ReadFault>
     ensures spelled { TakesFront SpellsCond (BeginsWithNone cond_goes_on) (Keeps IsCondInside) result reader.old reader.new }
     ensures taken { TakesInside IsCondInside result reader.new (cond_of reader.old) }

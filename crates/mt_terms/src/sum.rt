@@ -15,7 +15,7 @@ use std::alloc::Global;
 /// How many brackets, and NOT, may stand about one another.
 pub(crate) const DEPTH: usize = 64;
 
-/// Takes an expression; `None` is for a number outside 64 bits, here and below.
+/// TakesExactly an expression; `None` is for a number outside 64 bits, here and below.
 #[tactic(auto, unfolding(crate::specs::Descent::expr_of))]
 pub(crate) fn expression(alloc: Global, reader: &mut Reader<'_>) -> Result<Option<Expr>, ReadFault>
     ensures { TakesInside IsExprInside result reader.new (expr_of reader.old) }
@@ -23,7 +23,7 @@ pub(crate) fn expression(alloc: Global, reader: &mut Reader<'_>) -> Result<Optio
     sum(alloc, reader, DEPTH)
 }
 
-/// Takes terms with signs between, with so many brackets about one another at most.
+/// TakesExactly terms with signs between, with so many brackets about one another at most.
 #[cycle(expression)]
 #[tactic(auto, unfolding(crate::specs::Descent::sum_of))]
 fn sum(alloc: Global, reader: &mut Reader<'_>, depth: usize) -> Result<Option<Expr>, ReadFault>
@@ -41,7 +41,7 @@ fn sum(alloc: Global, reader: &mut Reader<'_>, depth: usize) -> Result<Option<Ex
     Ok(summed(terms))
 }
 
-/// Takes factors with stars between.
+/// TakesExactly factors with stars between.
 #[cycle(expression)]
 fn product(alloc: Global, reader: &mut Reader<'_>, depth: usize) -> Result<Option<Expr>, ReadFault>
     ensures { TakesInside IsExprInside result reader.new (term_of (factor_of depth) reader.old) }
@@ -57,7 +57,7 @@ fn product(alloc: Global, reader: &mut Reader<'_>, depth: usize) -> Result<Optio
     Ok(multiplied(factors))
 }
 
-/// Takes an atom, or a sum in brackets.
+/// TakesExactly an atom, or a sum in brackets.
 #[cycle(expression)]
 fn factor(alloc: Global, reader: &mut Reader<'_>, depth: usize) -> Result<Option<Expr>, ReadFault>
     ensures { TakesInside IsExprInside result reader.new (factor_of depth reader.old) }
@@ -73,7 +73,7 @@ fn factor(alloc: Global, reader: &mut Reader<'_>, depth: usize) -> Result<Option
     Ok(inner)
 }
 
-/// Takes an atom by itself.
+/// TakesExactly an atom by itself.
 #[tactic(auto, using(crate::proofs::Inside::keeps_atom), unfolding(crate::specs::Descent::alone_of))]
 fn alone(alloc: Global, reader: &mut Reader<'_>) -> Result<Option<Expr>, ReadFault>
     ensures { TakesInside IsExprInside result reader.new (alone_of reader.old) }
@@ -97,7 +97,7 @@ fn is_at_sign(reader: &Reader<'_>) -> bool
     reader.is_at_symbol(Symbol::Plus) || reader.is_at_symbol(Symbol::Minus)
 }
 
-/// Takes a sign, if there is one: whether it is a minus.
+/// TakesExactly a sign, if there is one: whether it is a minus.
 #[tactic(auto, unfolding(crate::specs::Descent::sign_of))]
 fn sign(reader: &mut Reader<'_>) -> Option<bool>
     ensures { TakesAny result reader.old reader.new (sign_of reader.old) }

@@ -23,7 +23,7 @@ pub(crate) enum Test {
     IsNull(bool),
 }
 
-/// Takes what stands behind the first atom of a predicate; `None` is for a number outside 64 bits,
+/// TakesExactly what stands behind the first atom of a predicate; `None` is for a number outside 64 bits,
 /// here and below.
 #[tactic(auto, using(crate::proofs::Inside::keeps_compare), unfolding(crate::specs::Descent::test_of))]
 pub(crate) fn rest_of_predicate(
@@ -46,7 +46,7 @@ pub(crate) fn rest_of_predicate(
     }
 }
 
-/// Takes a sign that compares, if there is one.
+/// TakesExactly a sign that compares, if there is one.
 #[tactic(auto, unfolding(crate::specs::Descent::compare_of))]
 fn comparison(reader: &mut Reader<'_>) -> Option<Cmp>
     ensures { TakesAny result reader.old reader.new (compare_of reader.old) }
@@ -71,7 +71,7 @@ fn cmp_of(symbol: Symbol) -> Option<Cmp>
     }
 }
 
-/// Takes what stands behind IS.
+/// TakesExactly what stands behind IS.
 #[tactic(auto, unfolding(crate::specs::Descent::tested_of))]
 fn null_test(reader: &mut Reader<'_>) -> Result<Option<Test>, ReadFault>
     ensures { TakesInside IsTestInside result reader.new (tested_of reader.old) }
@@ -84,7 +84,7 @@ fn null_test(reader: &mut Reader<'_>) -> Result<Option<Test>, ReadFault>
     Ok(Some(Test::IsNull(false)))
 }
 
-/// Takes IN, BETWEEN or LIKE, and what stands behind.
+/// TakesExactly IN, BETWEEN or LIKE, and what stands behind.
 #[tactic(auto, unfolding(crate::specs::Descent::worded_of))]
 fn worded(alloc: Global, reader: &mut Reader<'_>, negated: bool) -> Result<Option<Test>, ReadFault>
     ensures { TakesInside IsTestInside result reader.new (worded_of negated reader.old) }
@@ -99,7 +99,7 @@ fn worded(alloc: Global, reader: &mut Reader<'_>, negated: bool) -> Result<Optio
     like(alloc, reader, negated)
 }
 
-/// Takes the list of IN.
+/// TakesExactly the list of IN.
 #[tactic(auto, unfolding(crate::specs::Descent::member_of))]
 fn member(alloc: Global, reader: &mut Reader<'_>, negated: bool) -> Result<Option<Test>, ReadFault>
     ensures { TakesInside IsTestInside result reader.new (member_of negated reader.old) }
@@ -108,7 +108,7 @@ fn member(alloc: Global, reader: &mut Reader<'_>, negated: bool) -> Result<Optio
     Ok(listed(negated, list))
 }
 
-/// Takes the two bounds of BETWEEN. The AND between them is its own.
+/// TakesExactly the two bounds of BETWEEN. The AND between them is its own.
 #[tactic(auto, unfolding(crate::specs::Descent::between_of))]
 fn between(alloc: Global, reader: &mut Reader<'_>, negated: bool) -> Result<Option<Test>, ReadFault>
     ensures { TakesInside IsTestInside result reader.new (between_of negated reader.old) }
@@ -119,7 +119,7 @@ fn between(alloc: Global, reader: &mut Reader<'_>, negated: bool) -> Result<Opti
     Ok(bounded(negated, low, high))
 }
 
-/// Takes the pattern of LIKE.
+/// TakesExactly the pattern of LIKE.
 #[tactic(auto, using(crate::proofs::Inside::keeps_like), unfolding(crate::specs::Descent::like_of))]
 fn like(alloc: Global, reader: &mut Reader<'_>, negated: bool) -> Result<Option<Test>, ReadFault>
     ensures { TakesInside IsTestInside result reader.new (like_of negated reader.old) }

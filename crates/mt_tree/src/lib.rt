@@ -17,7 +17,7 @@ mod who;
 pub use code::Code;
 pub use command::{AdminCmd, ChunkText, Def, DefKind, FoldText};
 pub use expression::{Agg, Atom, Cond, Expr, Literal, Term};
-pub use name::{ColName, Names, is_name};
+pub use name::{ColName, Names};
 pub use reply::{Reply, ReplyText};
 pub use row::{MarkedRow, TableContent};
 pub use schema::{Column, Columns, Kind, Schema, Table};

@@ -1,4 +1,4 @@
-use crate::{ReplyText, is_name};
+use crate::ReplyText;
 use mt_value::{Str, Value};
 use std::alloc::{AllocError, Global};
 use std::test::Fail;
@@ -47,26 +47,5 @@ fn counts(rt: HostRuntime) -> Result<(), Fail> {
     reply.push_bytes(b"ok ")?;
     reply.push_count(u64::MAX)?;
     assert_eq!(rt; reply.as_bytes(), b"ok 18446744073709551615".as_slice());
-    Ok(())
-}
-
-#[test]
-fn knows_names(rt: HostRuntime) -> Result<(), Fail> {
-    let cases = [
-        ("a", true),
-        ("_1", true),
-        ("create", true),
-        ("a23456789_a23456789_a23456789_", true),
-        ("", false),
-        ("A", false),
-        ("1a", false),
-        ("a b", false),
-        ("where", false),
-        ("a23456789_a23456789_a23456789_1", false),
-    ];
-    for (text, wanted) in cases {
-        let text = Str::from_bytes(rt.alloc(), text.as_bytes())?;
-        assert_eq!(rt; is_name(&text), wanted, "{}", text.as_str());
-    }
     Ok(())
 }

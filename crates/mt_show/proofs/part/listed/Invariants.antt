@@ -1,6 +1,6 @@
 -- The first parts are printed.
 use Rattle.std.proofs.Common.{◌≡◌, ◌++◌, take, map}
-use Rattle.mt_printer.specs.Spaced.{spaced}
+use Rattle.mt_show.specs.Spaced.{spaced}
 use Rattle.mt_show.specs.Statements.{listed}
 use Rattle.mt_show.proofs.part.listed.Given as goal
 

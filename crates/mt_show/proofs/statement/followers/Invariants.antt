@@ -1,7 +1,7 @@
 -- The first references are printed.
 use Rattle.std.proofs.Common.{◌≡◌, ◌++◌, take}
 use Rattle.std.specs.List.{flat_map}
-use Rattle.mt_printer.specs.Spaced.{spaced}
+use Rattle.mt_show.specs.Spaced.{spaced}
 use Rattle.mt_show.specs.Statements.{following_tokens}
 use Rattle.mt_show.proofs.statement.followers.Given as goal
 

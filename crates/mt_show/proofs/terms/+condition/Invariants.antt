@@ -1,7 +1,7 @@
 -- The first members are printed.
 use Rattle.std.proofs.Common.{◌≡◌, ◌++◌, take, map}
 use Rattle.mt_lexer.specs.Tokens.{Word}
-use Rattle.mt_printer.specs.Spaced.{spaced}
+use Rattle.mt_show.specs.Spaced.{spaced}
 use Rattle.mt_show.specs.Shown.{between, cond_places}
 use Rattle.mt_show.specs.Printing.{placed}
 use Rattle.mt_show.proofs.terms.+condition.Given as goal

@@ -1,7 +1,7 @@
 -- Each level is printed as its tokens at its place.
 use Rattle.std.proofs.Common.{arith}
 use Rattle.std.proofs.lemmas.Grind.{common_steps}
-use Rattle.mt_printer.specs.Spaced.{spaced}
+use Rattle.mt_show.specs.Spaced.{spaced}
 use Rattle.mt_lexer.specs.Tokens.{Sign}
 use Rattle.mt_lexer.specs.declared.token.Symbol.TheVariants as symbol
 use Rattle.mt_show.specs.declared.place.Place.TheVariants.{Inner}

@@ -2,7 +2,7 @@
 use Rattle.std.proofs.Common.{◌≡◌, ◌++◌, take, map}
 use Rattle.mt_lexer.specs.Tokens.{Sign}
 use Rattle.mt_lexer.specs.declared.token.Symbol.TheVariants.{Star}
-use Rattle.mt_printer.specs.Spaced.{spaced}
+use Rattle.mt_show.specs.Spaced.{spaced}
 use Rattle.mt_show.specs.declared.place.Place.TheVariants.{Inner}
 use Rattle.mt_show.specs.Shown.{between, sum_tokens, expr_places}
 use Rattle.mt_show.specs.Printing.{placed}

@@ -1,15 +1,15 @@
 -- No quotas make the empty service.
 use Rattle.std.proofs.Common.{◌∙◌, sym, ap, arith}
 use Rattle.mt_model.specs.Service.{quota_total}
-use Rattle.foldsql.specs.Tenants.{service_of}
-use Rattle.foldsql.proofs.Quotas.{service_of_nothing, quota_total_of_nothing}
+use Rattle.foldsql.specs.Tenants.{service_with_quotas}
+use Rattle.foldsql.proofs.Quotas.{service_with_no_quotas, quota_total_of_nothing}
 use Rattle.foldsql.proofs.tenants.Tenants.new.Goals as goal
 
 pub invariant_of-result : goal.invariant_of-result
 invariant_of-result c = record {
-  sum = sym (ap (λ quotas. quota_total (service_of quotas)) c.new.ensures.empty ∙ quota_total_of_nothing);
+  sum = sym (ap (λ quotas. quota_total (service_with_quotas quotas)) c.new.ensures.empty ∙ quota_total_of_nothing);
   upto = omega arith;
 }
 
 pub returns : goal.returns
-returns c = ap service_of c.new.ensures.empty ∙ service_of_nothing
+returns c = ap service_with_quotas c.new.ensures.empty ∙ service_with_no_quotas

@@ -1,3 +1,0 @@
-pub mod Change
-pub mod Descent
-pub mod Inside

@@ -1,9 +1,0 @@
-pub mod Endings
-pub mod Keys
-pub mod Outputs
-pub mod Refs
-pub mod Selects
-pub mod Starts
-pub mod Tables
-pub mod Decided
-pub mod Examples

@@ -1,4 +1,0 @@
-pub mod Descent
-pub mod Inside
-pub mod Query
-pub mod Within

@@ -1,0 +1,15 @@
+pub mod Endings
+pub mod Keys
+pub mod Outputs
+pub mod Refs
+pub mod Selects
+pub mod Starts
+pub mod Tables
+pub mod Decided
+pub mod QueryExamples
+pub mod Assignments
+pub mod Changes
+pub mod Counted
+pub mod Filters
+pub mod Inserts
+pub mod ChangeExamples
