@@ -5,18 +5,18 @@
 
 mod digits;
 mod fault;
-mod production;
 mod literal;
 mod parse;
 mod piece;
+mod production;
 mod reader;
 
 pub use digits::size_of;
 pub use fault::ReadFault;
-pub use production::{NameForm, Production, bracketed, optional, pushed, separated};
 pub use literal::LiteralForm;
 pub use parse::ParseFault;
 pub use piece::Piece;
+pub use production::{NameForm, Production, bracketed, optional, pushed, separated};
 pub use reader::Reader;
 
 #[cfg(test)]

@@ -9,8 +9,8 @@ ghost use Rattle.mt_reader.specs.Taken.{Keeps, TakesInside};
 
 use crate::ReadFault;
 use crate::digits::{integer_of, negative_of};
-use crate::production::Production;
 use crate::piece::{Piece, undoubled};
+use crate::production::Production;
 use crate::reader::{Reader, text_of};
 use mt_lexer::Symbol;
 use mt_tree::Literal;
