@@ -8,3 +8,4 @@ pub mod Examples
 pub mod Lowered
 pub mod Decided
 pub mod LowerWords
+mod ReservedWords
