@@ -15,7 +15,6 @@ pub use digits::size_of;
 pub use fault::ReadFault;
 pub use literal::LiteralForm;
 pub use parse::ParseFault;
-pub use piece::Piece;
 pub use production::{NameForm, Production, bracketed, optional, pushed, separated};
 pub use reader::Reader;
 

@@ -43,7 +43,7 @@ impl<'t> Reader<'t> {
     }
 
     /// The first piece that is left.
-    pub fn peek(&self) -> Option<Piece<'t>>
+    pub(crate) fn peek(&self) -> Option<Piece<'t>>
         ensures is_piece { IfSome result IsPiece }
         ensures first { IfSome result (λ piece. self.now ≡ lexeme_of piece ∷ drop 1 self.now) }
         ensures none { IfNone result (self.now ≡ []) }
