@@ -1,98 +1,77 @@
 use crate::{LexFault, Symbol, TokenKind, is_name, is_reserved, tokens, tokens_are_determined};
 use mt_value::Str;
+use std::alloc::{AllocError, Global};
 use std::test::Fail;
 
-const WORD: TokenKind = TokenKind::Word;
+/// Texts, and their tokens or where none stands.
+const TABLE: &str = "\
+SELECT'a'FROM t => Word 0-6 Text 6-9 Word 9-13 Word 14-15 .
+ => .
+ \t  => .
+a<=b<>c>=d => Word 0-1 Symbol(LessEqual) 1-3 Word 3-4 Symbol(NotEqual) 4-6 Word 6-7 Symbol(GreaterEqual) 7-9 Word 9-10 .
+'it''s' => Text 0-7 .
+'a' 'b' => Text 0-3 Text 4-7 .
+'''' => Text 0-4 .
+'Zoë' => Text 0-6 .
+- 5 => Symbol(Minus) 0-1 Number 2-3 .
+a-1 => Word 0-1 Symbol(Minus) 1-2 Number 2-3 .
+_a1\t20 => Word 0-3 Number 4-6 .
+abcdefghijklmnopqrstuvwxyz_123 => Word 0-30 .
+ (),. => Symbol(Open) 1-2 Symbol(Close) 2-3 Symbol(Comma) 3-4 Symbol(Dot) 4-5 .
+*+=; => Symbol(Star) 0-1 Symbol(Plus) 1-2 Symbol(Equal) 2-3 Symbol(Semicolon) 3-4 .
+< > => Symbol(Less) 0-1 Symbol(Greater) 2-3 .
+'a => none at 0
+x = 'a'' => none at 4
+5a => none at 0
+a 12_ => none at 2
+abcdefghijklmnopqrstuvwxyz_1234 => none at 0
+é => none at 0
+a !b => none at 2
+\"a\" => none at 0";
 
-const NUMBER: TokenKind = TokenKind::Number;
-
-const TEXT: TokenKind = TokenKind::Text;
-
-const MINUS: TokenKind = TokenKind::Symbol(Symbol::Minus);
-
-const LESS_EQUAL: TokenKind = TokenKind::Symbol(Symbol::LessEqual);
-
-const NOT_EQUAL: TokenKind = TokenKind::Symbol(Symbol::NotEqual);
-
-const GREATER_EQUAL: TokenKind = TokenKind::Symbol(Symbol::GreaterEqual);
-
-#[test]
-fn reads_kinds(rt: HostRuntime) -> Result<(), Fail> {
-    tokens_are_determined();
-    let table = [
-        ("", [].as_slice()),
-        (" \t ", [].as_slice()),
-        ("SELECT'a'FROM t", [WORD, TEXT, WORD, WORD].as_slice()),
-        (
-            "a<=b<>c>=d",
-            [WORD, LESS_EQUAL, WORD, NOT_EQUAL, WORD, GREATER_EQUAL, WORD].as_slice(),
-        ),
-        ("'it''s'", [TEXT].as_slice()),
-        ("'a' 'b'", [TEXT, TEXT].as_slice()),
-        ("''''", [TEXT].as_slice()),
-        ("'Zoë'", [TEXT].as_slice()),
-        ("a-1", [WORD, MINUS, NUMBER].as_slice()),
-        ("- 5", [MINUS, NUMBER].as_slice()),
-        ("1 - -1", [NUMBER, MINUS, MINUS, NUMBER].as_slice()),
-        ("_a1\t2", [WORD, NUMBER].as_slice()),
-        ("abcdefghijklmnopqrstuvwxyz_123", [WORD].as_slice()),
-    ];
-    for (text, want) in table {
-        let found = tokens(rt.alloc(), text)?;
-        assert_eq!(rt; found.len(), want.len(), "of {text}");
-        for i in 0..want.len() {
-            assert_eq!(rt; found.get(i).kind, want[i], "at {i} of {text}");
+/// The tokens of a text, or where none stands.
+fn shown(alloc: Global, text: &str) -> Result<String, Fail> {
+    let mut out = String::new(alloc);
+    match tokens(alloc, text) {
+        Ok(found) => {
+            for token in found.as_slice() {
+                write!(out, "{:?} {}-{} ", token.kind, token.from, token.upto)?;
+            }
+            out.push_str(".")?;
         }
+        Err(LexFault::Bad { at }) => write!(out, "none at {at}")?,
+        Err(LexFault::Memory) => Err(AllocError)?,
+    }
+    Ok(out)
+}
+
+#[test]
+fn reads_tokens(rt: HostRuntime) -> Result<(), Fail> {
+    tokens_are_determined();
+    for line in TABLE.lines() {
+        let (text, want) = line.split_once(" => ").unwrap_or((line, ""));
+        let got = shown(rt.alloc(), text)?;
+        assert_eq!(rt; got.as_str(), want, "of {text}");
     }
     Ok(())
 }
 
 #[test]
-fn reads_symbols_and_places(rt: HostRuntime) -> Result<(), Fail> {
-    let text = " (),.*+-= <> < <= > >= ;";
-    let table = [
-        (Symbol::Open, 1, 2),
-        (Symbol::Close, 2, 3),
-        (Symbol::Comma, 3, 4),
-        (Symbol::Dot, 4, 5),
-        (Symbol::Star, 5, 6),
-        (Symbol::Plus, 6, 7),
-        (Symbol::Minus, 7, 8),
-        (Symbol::Equal, 8, 9),
-        (Symbol::NotEqual, 10, 12),
-        (Symbol::Less, 13, 14),
-        (Symbol::LessEqual, 15, 17),
-        (Symbol::Greater, 18, 19),
-        (Symbol::GreaterEqual, 20, 22),
-        (Symbol::Semicolon, 23, 24),
-    ];
-    let found = tokens(rt.alloc(), text)?;
-    assert_eq!(rt; found.len(), table.len());
-    for i in 0..table.len() {
-        let token = *found.get(i);
-        let (symbol, from, upto) = table[i];
-        assert_eq!(rt; token.kind, TokenKind::Symbol(symbol));
-        assert_eq!(rt; (token.from, token.upto), (from, upto));
+fn reads_a_token_at_each_byte(rt: HostRuntime) -> Result<(), Fail> {
+    let mut text = String::new(rt.alloc());
+    for _ in 0..65_535 {
+        text.push_str("+")?;
     }
+    let found = tokens(rt.alloc(), text.as_str())?;
+    assert_eq!(rt; found.len(), 65_535);
+    let last = *found.get(65_534);
+    assert_eq!(rt; last.kind, TokenKind::Symbol(Symbol::Plus));
+    assert_eq!(rt; (last.from, last.upto), (65_534, 65_535));
     Ok(())
 }
 
 #[test]
-fn refuses_what_is_no_token(rt: HostRuntime) -> Result<(), Fail> {
-    let table = [
-        ("'a", 0),
-        ("x = 'a''", 4),
-        ("5a", 0),
-        ("a 12_", 2),
-        ("abcdefghijklmnopqrstuvwxyz_1234", 0),
-        ("é", 0),
-        ("a !b", 2),
-        ("\"a\"", 0),
-    ];
-    for (text, at) in table {
-        let fault = tokens(rt.alloc(), text).err();
-        assert_eq!(rt; fault, Some(LexFault::Bad { at }), "of {text}");
-    }
+fn prints_a_fault(rt: HostRuntime) -> Result<(), Fail> {
     let text = LexFault::Bad { at: 3 }.to_string(rt.alloc())?;
     assert_eq!(rt; text.as_str(), "no token at byte 3");
     Ok(())
@@ -100,31 +79,23 @@ fn refuses_what_is_no_token(rt: HostRuntime) -> Result<(), Fail> {
 
 #[test]
 fn knows_reserved_words(rt: HostRuntime) {
-    for word in ["and", "SELECT", "Values", "wHERE"] {
+    for word in "and SELECT Values wHERE by rollback INTEGER".split(' ') {
         assert!(rt; is_reserved(word.as_bytes()), "{word} is reserved");
     }
-    for word in ["", "an", "create", "table", "tenant", "quota", "selects"] {
+    for word in " an create table tenant quota selects a_name_of_twenty_bytes".split(' ') {
         assert!(rt; !is_reserved(word.as_bytes()), "{word} is a name");
     }
 }
 
 #[test]
 fn knows_names(rt: HostRuntime) -> Result<(), Fail> {
-    let cases = [
-        ("a", true),
-        ("_1", true),
-        ("create", true),
-        ("a23456789_a23456789_a23456789_", true),
-        ("", false),
-        ("A", false),
-        ("1a", false),
-        ("a b", false),
-        ("where", false),
-        ("a23456789_a23456789_a23456789_1", false),
-    ];
-    for (text, wanted) in cases {
-        let text = Str::from_bytes(rt.alloc(), text.as_bytes())?;
-        assert_eq!(rt; is_name(&text), wanted, "{}", text.as_str());
+    for word in "a _1 create a23456789_a23456789_a23456789_".split(' ') {
+        let text = Str::from_str(rt.alloc(), word)?;
+        assert!(rt; is_name(&text), "{word} is a name");
+    }
+    for word in " A 1a a-b where a23456789_a23456789_a23456789_1".split(' ') {
+        let text = Str::from_str(rt.alloc(), word)?;
+        assert!(rt; !is_name(&text), "{word} is no name");
     }
     Ok(())
 }
