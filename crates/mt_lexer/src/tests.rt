@@ -1,9 +1,9 @@
-use crate::{LexFault, Symbol, TokenKind, is_name, is_reserved, tokens, tokens_are_determined};
+use crate::{Symbol, Token, TokenKind, is_name, is_reserved, tokens, tokens_are_determined};
 use mt_value::Str;
 use std::alloc::{AllocError, Global};
 use std::test::Fail;
 
-/// Texts, and their tokens or where none stands.
+/// Texts, their tokens or where none stands, and whether the whole is reserved or a name.
 const TABLE: &str = "\
 SELECT'a'FROM t => Word 0-6 Text 6-9 Word 9-13 Word 14-15 .
  => .
@@ -16,21 +16,32 @@ a<=b<>c>=d => Word 0-1 Symbol(LessEqual) 1-3 Word 3-4 Symbol(NotEqual) 4-6 Word 
 - 5 => Symbol(Minus) 0-1 Number 2-3 .
 a-1 => Word 0-1 Symbol(Minus) 1-2 Number 2-3 .
 _a1\t20 => Word 0-3 Number 4-6 .
-abcdefghijklmnopqrstuvwxyz_123 => Word 0-30 .
  (),. => Symbol(Open) 1-2 Symbol(Close) 2-3 Symbol(Comma) 3-4 Symbol(Dot) 4-5 .
 *+=; => Symbol(Star) 0-1 Symbol(Plus) 1-2 Symbol(Equal) 2-3 Symbol(Semicolon) 3-4 .
 < > => Symbol(Less) 0-1 Symbol(Greater) 2-3 .
-'a => none at 0
-x = 'a'' => none at 4
-5a => none at 0
-a 12_ => none at 2
-abcdefghijklmnopqrstuvwxyz_1234 => none at 0
-é => none at 0
-a !b => none at 2
-\"a\" => none at 0";
+'a => no token at byte 0
+x = 'a'' => no token at byte 4
+5a => no token at byte 0
+a 12_ => no token at byte 2
+abcdefghijklmnopqrstuvwxyz_1234 => no token at byte 0
+é => no token at byte 0
+a !b => no token at byte 2
+\"a\" => no token at byte 0
+abcdefghijklmnopqrstuvwxyz_123 => Word 0-30 .name
+_1 => Word 0-2 .name
+A => Word 0-1 .
+create => Word 0-6 .name
+selects => Word 0-7 .name
+wHERE => Word 0-5 .reserved
+by => Word 0-2 .reserved
+and => Word 0-3 .reserved
+Null => Word 0-4 .reserved
+INSERT => Word 0-6 .reserved
+between => Word 0-7 .reserved
+rollback => Word 0-8 .reserved";
 
-/// The tokens of a text, or where none stands.
-fn shown(alloc: Global, text: &str) -> Result<String, Fail> {
+/// What is known of a text.
+fn shown(alloc: Global, text: &str) -> Result<String, AllocError> {
     let mut out = String::new(alloc);
     match tokens(alloc, text) {
         Ok(found) => {
@@ -39,8 +50,13 @@ fn shown(alloc: Global, text: &str) -> Result<String, Fail> {
             }
             out.push_str(".")?;
         }
-        Err(LexFault::Bad { at }) => write!(out, "none at {at}")?,
-        Err(LexFault::Memory) => Err(AllocError)?,
+        Err(fault) => write!(out, "{fault}")?,
+    }
+    if is_reserved(text.as_bytes()) {
+        out.push_str("reserved")?;
+    }
+    if is_name(&Str::from_str(alloc, text)?) {
+        out.push_str("name")?;
     }
     Ok(out)
 }
@@ -63,39 +79,11 @@ fn reads_a_token_at_each_byte(rt: HostRuntime) -> Result<(), Fail> {
         text.push_str("+")?;
     }
     let found = tokens(rt.alloc(), text.as_str())?;
-    assert_eq!(rt; found.len(), 65_535);
-    let last = *found.get(65_534);
-    assert_eq!(rt; last.kind, TokenKind::Symbol(Symbol::Plus));
-    assert_eq!(rt; (last.from, last.upto), (65_534, 65_535));
-    Ok(())
-}
-
-#[test]
-fn prints_a_fault(rt: HostRuntime) -> Result<(), Fail> {
-    let text = LexFault::Bad { at: 3 }.to_string(rt.alloc())?;
-    assert_eq!(rt; text.as_str(), "no token at byte 3");
-    Ok(())
-}
-
-#[test]
-fn knows_reserved_words(rt: HostRuntime) {
-    for word in "and SELECT Values wHERE by rollback INTEGER".split(' ') {
-        assert!(rt; is_reserved(word.as_bytes()), "{word} is reserved");
-    }
-    for word in " an create table tenant quota selects a_name_of_twenty_bytes".split(' ') {
-        assert!(rt; !is_reserved(word.as_bytes()), "{word} is a name");
-    }
-}
-
-#[test]
-fn knows_names(rt: HostRuntime) -> Result<(), Fail> {
-    for word in "a _1 create a23456789_a23456789_a23456789_".split(' ') {
-        let text = Str::from_str(rt.alloc(), word)?;
-        assert!(rt; is_name(&text), "{word} is a name");
-    }
-    for word in " A 1a a-b where a23456789_a23456789_a23456789_1".split(' ') {
-        let text = Str::from_str(rt.alloc(), word)?;
-        assert!(rt; !is_name(&text), "{word} is no name");
-    }
+    let last = Token {
+        kind: TokenKind::Symbol(Symbol::Plus),
+        from: 65_534,
+        upto: 65_535,
+    };
+    assert!(rt; found.len() == 65_535 && found.as_slice().last() == Some(&last));
     Ok(())
 }
