@@ -11,7 +11,7 @@ use Rattle.mt_reader.specs.Forms.{Form, Separated, WithSemicolon}
 use Rattle.mt_reader.specs.Fronts.{Begins, AtEnd}
 use Rattle.mt_reader.specs.Descent.{is_same, after, name_of, number_of, items_of, items_behind, separated_of, with_front, ended, end_of}
 use Rattle.mt_lexer.specs.Reserved.{is_reserved_name}
-use Rattle.mt_reader.proofs.Shrinking.{bind_some, guard_some, test_some, same_tree, same_rest, after_shrinks}
+use Rattle.mt_reader.proofs.Shrinking.{bind_some, guard_some, test_some, same_tree, same_rest}
 
 -- lexemes that pass the test are one
 is_same-true : (a b : Lexeme) → is_same a b ≡ true → a ≡ b
