@@ -34,7 +34,7 @@ impl Production for LiteralForm {
     }
 }
 
-/// TakesExactly a literal, by its first token.
+/// Takes a literal, by its first token.
 fn literal(alloc: Global, reader: &mut Reader<'_>) -> Result<Option<Literal>, ReadFault>
     ensures { TakesInside IsLiteralInside result reader.new (literal_of reader.old) }
 {
