@@ -5,6 +5,6 @@ pub mod Reading
 pub mod Tiling
 pub mod Determined
 pub mod Examples
-pub mod Lowered
 pub mod Decided
 pub mod LowerWords
+mod ReservedWords

@@ -1,6 +1,6 @@
 -- What one place of a text can be read as.
-use Rattle.std.proofs.Common.{◌≡◌, ℕ, zero, suc, ◌<◌, ◌≤◌, true, false, ◌||◌, List, [], ◌∷◌, ◌++◌, length, take, drop, get_or, map, refl, sym, ap, ◌∙◌, subst, ◌==◌, leb, ◌⊎◌, inl, inr, arith}
-use Rattle.std.proofs.lemmas.Bool.{eqb-true, leb-true, ne_eqb, or_from, or_cases, or_left, or_right, and_parts}
+use Rattle.std.proofs.Common.{◌≡◌, ℕ, zero, suc, ◌<◌, ◌≤◌, true, false, ◌||◌, List, [], ◌∷◌, ◌++◌, length, take, drop, get_or, map, refl, sym, ap, ◌∙◌, subst, ◌==◌, leb, ◌⊎◌, inl, inr, ◌≢◌, arith}
+use Rattle.std.proofs.lemmas.Bool.{false≢true, eqb-true, leb-true, ne_eqb, or_from, or_cases, or_left, or_right, and_parts}
 use Rattle.std.proofs.lemmas.List.{length-take-le, length-drop}
 use Rattle.std.proofs.lemmas.List.Elements.{All-cons, All-tail, All-weaker}
 use Rattle.std.specs.List.{AllPass}
@@ -99,13 +99,23 @@ first_taken [] (suc n) h = refl
 first_taken (x ∷ xs) zero h = absurd (omega arith)
 first_taken (x ∷ xs) (suc n) h = refl
 
+-- a word begins as words do
+word_begins : (rest : List ℕ) (n : ℕ) (name : List ℕ) → IsFirstToken rest n (Word name) → begins_word (get_or rest 0 0) ≡ true
+word_begins rest n name r =
+    let w = word_from_spells (take n rest) name r.spelling in
+    ap begins_word (sym (first_taken rest n w.long)) ∙ w.first
+
+-- and a number with a digit
+number_begins : (rest : List ℕ) (n value : ℕ) → IsFirstToken rest n (Number value) → is_digit (get_or rest 0 0) ≡ true
+number_begins rest n value r = ap is_digit (sym (first_taken rest n r.spelling.0)) ∙ r.spelling.1 0 0 r.spelling.0
+
 -- a token has a byte, and the first one tells its kind
 pub begins_at_read : (l : Lexeme) (rest : List ℕ) (n : ℕ) → IsFirstToken rest n l → (0 < n) × BeginsAt l (get_or rest 0 0)
 begins_at_read (Word name) rest n r =
     let w = word_from_spells (take n rest) name r.spelling in
-    (omega (arith, length-take-le n rest r.within, w.long), word_byte _ (ap begins_word (sym (first_taken rest n w.long)) ∙ w.first))
+    (omega (arith, length-take-le n rest r.within, w.long), word_byte _ (word_begins rest n name r))
 begins_at_read (Number v) rest n r =
-    (omega (arith, length-take-le n rest r.within, r.spelling.0), digit_byte _ (ap is_digit (sym (first_taken rest n r.spelling.0)) ∙ r.spelling.1 0 0 r.spelling.0))
+    (omega (arith, length-take-le n rest r.within, r.spelling.0), digit_byte _ (number_begins rest n v r))
 begins_at_read (Quoted text) rest n r =
     let long : 0 < length (take n rest) = rw r.spelling (omega arith) in
     (omega (arith, length-take-le n rest r.within), sym (first_taken rest n long) ∙ ap (λ xs. get_or xs 0 0) r.spelling)
@@ -218,3 +228,37 @@ pub number_from_run : (rest : List ℕ) (n : ℕ) → IsWordRun rest n → 0 < n
 number_from_run rest n h p a =
     let l = length-take-le n rest h.within in
     record { within = h.within; spelling = (omega arith, a, refl); ends = h.ends }
+
+-- where a word may begin and none stands, no token does
+pub none_for_word : (rest : List ℕ) → begins_word (get_or rest 0 0) ≡ true → ((n : ℕ) (name : List ℕ) → IsFirstToken rest n (Word name) → ⊥) → (n : ℕ) (lexeme : Lexeme) → IsFirstToken rest n lexeme → ⊥
+none_for_word rest begins none n lexeme r = of lexeme r (begins_at_read lexeme rest n r).1 (word_byte _ begins) where
+  of : (lexeme : Lexeme) → IsFirstToken rest n lexeme → BeginsAt lexeme (get_or rest 0 0) → 65 ≤ get_or rest 0 0 → ⊥
+  of (Word name) r b big = none n name r
+  of (Number value) r b big = omega arith
+  of (Quoted text) r b big = omega arith
+  of (Sign sign) r b big = omega arith
+
+-- and so for a number
+pub none_for_number : (rest : List ℕ) → is_digit (get_or rest 0 0) ≡ true → ((n value : ℕ) → IsFirstToken rest n (Number value) → ⊥) → (n : ℕ) (lexeme : Lexeme) → IsFirstToken rest n lexeme → ⊥
+none_for_number rest digit none n lexeme r = of lexeme r (begins_at_read lexeme rest n r).1 (digit_byte _ digit) where
+  of : (lexeme : Lexeme) → IsFirstToken rest n lexeme → BeginsAt lexeme (get_or rest 0 0) → (48 ≤ get_or rest 0 0) × (get_or rest 0 0 ≤ 57) → ⊥
+  of (Word name) r b d = omega arith
+  of (Number value) r b d = none n value r
+  of (Quoted text) r b d = omega arith
+  of (Sign sign) r b d = elim b.2 [ inl w ↦ omega arith | inr w ↦ omega arith ]
+
+-- and so for a text in quotes
+pub none_for_quoted : (rest : List ℕ) → get_or rest 0 0 ≡ 39 → ((n : ℕ) (text : List ℕ) → IsFirstToken rest n (Quoted text) → ⊥) → (n : ℕ) (lexeme : Lexeme) → IsFirstToken rest n lexeme → ⊥
+none_for_quoted rest quote none n lexeme r = of lexeme r (begins_at_read lexeme rest n r).1 where
+  of : (lexeme : Lexeme) → IsFirstToken rest n lexeme → BeginsAt lexeme (get_or rest 0 0) → ⊥
+  of (Word name) r b = omega arith
+  of (Number value) r b = omega arith
+  of (Quoted text) r b = none n text r
+  of (Sign sign) r b = omega arith
+
+-- where no word, no number and no text may begin, and no symbol stands, no token does
+pub none_for_sign : (rest : List ℕ) → begins_word (get_or rest 0 0) ≡ false → is_digit (get_or rest 0 0) ≡ false → get_or rest 0 0 ≢ 39 → ((n : ℕ) (sign : Symbol) → IsFirstToken rest n (Sign sign) → ⊥) → (n : ℕ) (lexeme : Lexeme) → IsFirstToken rest n lexeme → ⊥
+none_for_sign rest word digit quote none n (Word name) r = false≢true (sym word ∙ word_begins rest n name r)
+none_for_sign rest word digit quote none n (Number value) r = false≢true (sym digit ∙ number_begins rest n value r)
+none_for_sign rest word digit quote none n (Quoted text) r = quote (begins_at_read (Quoted text) rest n r).1
+none_for_sign rest word digit quote none n (Sign sign) r = none n sign r

@@ -1,6 +1,7 @@
 //! The tokens of a statement or command: words, numbers, texts in quotes and symbols, the longest
-//! first, with spaces and tabs between them. It promises that the tokens are the text's, in order,
-//! and that a text is refused exactly where no token stands.
+//! first, with spaces and tabs between them; and which words are reserved, and so name nothing. It
+//! promises that the tokens are the text's, in order, and that a text is refused exactly where no
+//! token stands, or for want of memory.
 #![tactic(auto)]
 
 mod laws;

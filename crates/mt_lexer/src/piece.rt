@@ -9,7 +9,8 @@ use crate::{Symbol, TokenKind};
 /// The longest word, in bytes.
 pub(crate) const WORD_LIMIT: usize = 30;
 
-const QUOTE: u8 = b'\'';
+/// What a text stands between.
+pub(crate) const QUOTE: u8 = b'\'';
 
 /// Whether a word may begin with this byte.
 pub(crate) fn begins_word(byte: u8) -> bool
@@ -22,11 +23,18 @@ pub(crate) fn begins_word(byte: u8) -> bool
 pub(crate) fn is_in_word(byte: u8) -> bool
     ensures { result ≡ is_in_word byte }
 {
-    begins_word(byte) || byte.is_ascii_digit()
+    begins_word(byte) || is_digit(byte)
+}
+
+/// Whether this byte is a digit.
+pub(crate) fn is_digit(byte: u8) -> bool
+    ensures { result ≡ is_digit byte }
+{
+    byte.is_ascii_digit()
 }
 
 /// The byte at a place, or 0 past the end.
-fn byte_at(rest: &[u8], at: usize) -> u8
+pub(crate) fn byte_at(rest: &[u8], at: usize) -> u8
     ensures { result ≡ slice_index rest.now at }
 {
     rest.get(at).copied().unwrap_or(0)
@@ -45,7 +53,7 @@ fn run_len(rest: &[u8]) -> usize
 }
 
 /// The length of the word that these bytes begin with.
-pub fn word_len(rest: &[u8]) -> Option<usize>
+pub(crate) fn word_len(rest: &[u8]) -> Option<usize>
     ensures some { IfSome result (λ n. IsFirstToken rest.now n (Word (map lower (take n rest.now)))) }
     ensures none { IfNone result ((n : ℕ) (name : List ℕ) → IsFirstToken rest.now n (Word name) → ⊥) }
 {
@@ -61,11 +69,11 @@ pub fn word_len(rest: &[u8]) -> Option<usize>
 fn all_digits(bytes: &[u8]) -> bool
     ensures { IsTrue result ↔ AllPass is_digit bytes.now }
 {
-    bytes.iter().all(|byte| byte.is_ascii_digit())
+    bytes.iter().all(|byte| is_digit(*byte))
 }
 
 /// The length of the number that these bytes begin with.
-pub fn number_len(rest: &[u8]) -> Option<usize>
+pub(crate) fn number_len(rest: &[u8]) -> Option<usize>
     ensures some { IfSome result (λ n. IsFirstToken rest.now n (Number (digits_value 10 (take n rest.now)))) }
     ensures none { IfNone result ((n value : ℕ) → IsFirstToken rest.now n (Number value) → ⊥) }
 {
@@ -78,7 +86,7 @@ pub fn number_len(rest: &[u8]) -> Option<usize>
 }
 
 /// The length of the text in quotes that these bytes begin with, its quotes included.
-pub fn quoted_len(rest: &[u8]) -> Option<usize>
+pub(crate) fn quoted_len(rest: &[u8]) -> Option<usize>
     ensures some { IfSome result (λ n. (text : List ℕ) × IsFirstToken rest.now n (Quoted text)) }
     ensures none { IfNone result ((n : ℕ) (text : List ℕ) → IsFirstToken rest.now n (Quoted text) → ⊥) }
 {
@@ -130,7 +138,7 @@ fn symbol_of(first: u8, next: u8) -> Option<Symbol>
 }
 
 /// The longest symbol that these bytes begin with.
-pub fn symbol_at(rest: &[u8]) -> Option<Symbol>
+pub(crate) fn symbol_at(rest: &[u8]) -> Option<Symbol>
     ensures some { IfSome result (λ s. IsFirstToken rest.now (length (symbol_bytes s)) (Sign s)) }
     ensures none { IfNone result ((n : ℕ) (s : Symbol) → IsFirstToken rest.now n (Sign s) → ⊥) }
 {
@@ -138,7 +146,7 @@ pub fn symbol_at(rest: &[u8]) -> Option<Symbol>
 }
 
 /// How many bytes spell the symbol.
-pub fn symbol_len(symbol: Symbol) -> usize
+pub(crate) fn symbol_len(symbol: Symbol) -> usize
     ensures { result ≡ length (symbol_bytes symbol) }
 {
     match symbol {

@@ -3,7 +3,9 @@ ghost use Rattle.mt_lexer.specs.declared.token.Token.{Token};
 ghost use Rattle.mt_lexer.specs.FirstToken.{IsFirstToken};
 ghost use Rattle.mt_lexer.specs.Tokens.{Lexeme, IsGap, IsOfKind, IsToken, Says, HasNoTokenAt, is_blank};
 
-use crate::piece::{number_len, quoted_len, symbol_at, symbol_len, word_len};
+use crate::piece::{
+    QUOTE, begins_word, byte_at, is_digit, number_len, quoted_len, symbol_at, symbol_len, word_len,
+};
 use crate::{Token, TokenKind, Tokens};
 use std::alloc::{AllocError, Global};
 use thiserror::Error;
@@ -85,18 +87,22 @@ fn token_at(text: &[u8], at: usize) -> Option<Token>
     })
 }
 
-/// The kind of token that these bytes begin with, and how many it takes.
+/// The kind of token that these bytes begin with, and how many it takes. The first byte tells which.
 fn kind_at(rest: &[u8]) -> Option<(TokenKind, usize)>
     ensures some { IfSome result (λ found. (lexeme : Lexeme) × IsOfKind found.0 lexeme × IsFirstToken rest.now found.1 lexeme) }
     ensures none { IfNone result ((n : ℕ) (lexeme : Lexeme) → IsFirstToken rest.now n lexeme → ⊥) }
 {
-    if let Some(len) = word_len(rest) {
+    let first = byte_at(rest, 0);
+    if begins_word(first) {
+        let len = word_len(rest)?;
         return Some((TokenKind::Word, len));
     }
-    if let Some(len) = number_len(rest) {
+    if is_digit(first) {
+        let len = number_len(rest)?;
         return Some((TokenKind::Number, len));
     }
-    if let Some(len) = quoted_len(rest) {
+    if first == QUOTE {
+        let len = quoted_len(rest)?;
         return Some((TokenKind::Text, len));
     }
     let symbol = symbol_at(rest)?;

@@ -1,130 +1,89 @@
-use crate::{LexFault, Symbol, TokenKind, is_name, is_reserved, tokens, tokens_are_determined};
+use crate::{Symbol, Token, TokenKind, is_name, is_reserved, tokens, tokens_are_determined};
 use mt_value::Str;
+use std::alloc::{AllocError, Global};
 use std::test::Fail;
 
-const WORD: TokenKind = TokenKind::Word;
+/// Texts, their tokens or where none stands, and whether the whole is reserved or a name.
+const TABLE: &str = "\
+SELECT'a'FROM t => Word 0-6 Text 6-9 Word 9-13 Word 14-15 .
+ => .
+ \t  => .
+a<=b<>c>=d => Word 0-1 Symbol(LessEqual) 1-3 Word 3-4 Symbol(NotEqual) 4-6 Word 6-7 Symbol(GreaterEqual) 7-9 Word 9-10 .
+'it''s' => Text 0-7 .
+'a' 'b' => Text 0-3 Text 4-7 .
+'''' => Text 0-4 .
+'Zoë' => Text 0-6 .
+- 5 => Symbol(Minus) 0-1 Number 2-3 .
+a-1 => Word 0-1 Symbol(Minus) 1-2 Number 2-3 .
+_a1\t20 => Word 0-3 Number 4-6 .
+ (),. => Symbol(Open) 1-2 Symbol(Close) 2-3 Symbol(Comma) 3-4 Symbol(Dot) 4-5 .
+*+=; => Symbol(Star) 0-1 Symbol(Plus) 1-2 Symbol(Equal) 2-3 Symbol(Semicolon) 3-4 .
+< > => Symbol(Less) 0-1 Symbol(Greater) 2-3 .
+'a => no token at byte 0
+x = 'a'' => no token at byte 4
+5a => no token at byte 0
+a 12_ => no token at byte 2
+abcdefghijklmnopqrstuvwxyz_1234 => no token at byte 0
+é => no token at byte 0
+a !b => no token at byte 2
+\"a\" => no token at byte 0
+abcdefghijklmnopqrstuvwxyz_123 => Word 0-30 .name
+_1 => Word 0-2 .name
+A => Word 0-1 .
+create => Word 0-6 .name
+selects => Word 0-7 .name
+wHERE => Word 0-5 .reserved
+by => Word 0-2 .reserved
+and => Word 0-3 .reserved
+Null => Word 0-4 .reserved
+INSERT => Word 0-6 .reserved
+between => Word 0-7 .reserved
+rollback => Word 0-8 .reserved";
 
-const NUMBER: TokenKind = TokenKind::Number;
-
-const TEXT: TokenKind = TokenKind::Text;
-
-const MINUS: TokenKind = TokenKind::Symbol(Symbol::Minus);
-
-const LESS_EQUAL: TokenKind = TokenKind::Symbol(Symbol::LessEqual);
-
-const NOT_EQUAL: TokenKind = TokenKind::Symbol(Symbol::NotEqual);
-
-const GREATER_EQUAL: TokenKind = TokenKind::Symbol(Symbol::GreaterEqual);
-
-#[test]
-fn reads_kinds(rt: HostRuntime) -> Result<(), Fail> {
-    tokens_are_determined();
-    let table = [
-        ("", [].as_slice()),
-        (" \t ", [].as_slice()),
-        ("SELECT'a'FROM t", [WORD, TEXT, WORD, WORD].as_slice()),
-        (
-            "a<=b<>c>=d",
-            [WORD, LESS_EQUAL, WORD, NOT_EQUAL, WORD, GREATER_EQUAL, WORD].as_slice(),
-        ),
-        ("'it''s'", [TEXT].as_slice()),
-        ("'a' 'b'", [TEXT, TEXT].as_slice()),
-        ("''''", [TEXT].as_slice()),
-        ("'Zoë'", [TEXT].as_slice()),
-        ("a-1", [WORD, MINUS, NUMBER].as_slice()),
-        ("- 5", [MINUS, NUMBER].as_slice()),
-        ("1 - -1", [NUMBER, MINUS, MINUS, NUMBER].as_slice()),
-        ("_a1\t2", [WORD, NUMBER].as_slice()),
-        ("abcdefghijklmnopqrstuvwxyz_123", [WORD].as_slice()),
-    ];
-    for (text, want) in table {
-        let found = tokens(rt.alloc(), text)?;
-        assert_eq!(rt; found.len(), want.len(), "of {text}");
-        for i in 0..want.len() {
-            assert_eq!(rt; found.get(i).kind, want[i], "at {i} of {text}");
+/// What is known of a text.
+fn shown(alloc: Global, text: &str) -> Result<String, AllocError> {
+    let mut out = String::new(alloc);
+    match tokens(alloc, text) {
+        Ok(found) => {
+            for token in found.as_slice() {
+                write!(out, "{:?} {}-{} ", token.kind, token.from, token.upto)?;
+            }
+            out.push_str(".")?;
         }
+        Err(fault) => write!(out, "{fault}")?,
+    }
+    if is_reserved(text.as_bytes()) {
+        out.push_str("reserved")?;
+    }
+    if is_name(&Str::from_str(alloc, text)?) {
+        out.push_str("name")?;
+    }
+    Ok(out)
+}
+
+#[test]
+fn reads_tokens(rt: HostRuntime) -> Result<(), Fail> {
+    tokens_are_determined();
+    for line in TABLE.lines() {
+        let (text, want) = line.split_once(" => ").unwrap_or((line, ""));
+        let got = shown(rt.alloc(), text)?;
+        assert_eq!(rt; got.as_str(), want, "of {text}");
     }
     Ok(())
 }
 
 #[test]
-fn reads_symbols_and_places(rt: HostRuntime) -> Result<(), Fail> {
-    let text = " (),.*+-= <> < <= > >= ;";
-    let table = [
-        (Symbol::Open, 1, 2),
-        (Symbol::Close, 2, 3),
-        (Symbol::Comma, 3, 4),
-        (Symbol::Dot, 4, 5),
-        (Symbol::Star, 5, 6),
-        (Symbol::Plus, 6, 7),
-        (Symbol::Minus, 7, 8),
-        (Symbol::Equal, 8, 9),
-        (Symbol::NotEqual, 10, 12),
-        (Symbol::Less, 13, 14),
-        (Symbol::LessEqual, 15, 17),
-        (Symbol::Greater, 18, 19),
-        (Symbol::GreaterEqual, 20, 22),
-        (Symbol::Semicolon, 23, 24),
-    ];
-    let found = tokens(rt.alloc(), text)?;
-    assert_eq!(rt; found.len(), table.len());
-    for i in 0..table.len() {
-        let token = *found.get(i);
-        let (symbol, from, upto) = table[i];
-        assert_eq!(rt; token.kind, TokenKind::Symbol(symbol));
-        assert_eq!(rt; (token.from, token.upto), (from, upto));
+fn reads_a_token_at_each_byte(rt: HostRuntime) -> Result<(), Fail> {
+    let mut text = String::new(rt.alloc());
+    for _ in 0..65_535 {
+        text.push_str("+")?;
     }
-    Ok(())
-}
-
-#[test]
-fn refuses_what_is_no_token(rt: HostRuntime) -> Result<(), Fail> {
-    let table = [
-        ("'a", 0),
-        ("x = 'a''", 4),
-        ("5a", 0),
-        ("a 12_", 2),
-        ("abcdefghijklmnopqrstuvwxyz_1234", 0),
-        ("é", 0),
-        ("a !b", 2),
-        ("\"a\"", 0),
-    ];
-    for (text, at) in table {
-        let fault = tokens(rt.alloc(), text).err();
-        assert_eq!(rt; fault, Some(LexFault::Bad { at }), "of {text}");
-    }
-    let text = LexFault::Bad { at: 3 }.to_string(rt.alloc())?;
-    assert_eq!(rt; text.as_str(), "no token at byte 3");
-    Ok(())
-}
-
-#[test]
-fn knows_reserved_words(rt: HostRuntime) {
-    for word in ["and", "SELECT", "Values", "wHERE"] {
-        assert!(rt; is_reserved(word.as_bytes()), "{word} is reserved");
-    }
-    for word in ["", "an", "create", "table", "tenant", "quota", "selects"] {
-        assert!(rt; !is_reserved(word.as_bytes()), "{word} is a name");
-    }
-}
-
-#[test]
-fn knows_names(rt: HostRuntime) -> Result<(), Fail> {
-    let cases = [
-        ("a", true),
-        ("_1", true),
-        ("create", true),
-        ("a23456789_a23456789_a23456789_", true),
-        ("", false),
-        ("A", false),
-        ("1a", false),
-        ("a b", false),
-        ("where", false),
-        ("a23456789_a23456789_a23456789_1", false),
-    ];
-    for (text, wanted) in cases {
-        let text = Str::from_bytes(rt.alloc(), text.as_bytes())?;
-        assert_eq!(rt; is_name(&text), wanted, "{}", text.as_str());
-    }
+    let found = tokens(rt.alloc(), text.as_str())?;
+    let last = Token {
+        kind: TokenKind::Symbol(Symbol::Plus),
+        from: 65_534,
+        upto: 65_535,
+    };
+    assert!(rt; found.len() == 65_535 && found.as_slice().last() == Some(&last));
     Ok(())
 }

@@ -8,58 +8,49 @@ ghost use Rattle.mt_lexer.specs.FirstToken.{passes_as_lower_word};
 use crate::piece::{WORD_LIMIT, begins_word, is_in_word};
 use mt_value::Str;
 
-/// The words that have a meaning of their own, and so name nothing.
-const RESERVED: [&[u8]; 43] = [
-    b"and",
-    b"as",
-    b"asc",
-    b"begin",
-    b"between",
-    b"by",
-    b"commit",
-    b"count",
-    b"date",
-    b"delete",
-    b"desc",
-    b"distinct",
-    b"from",
-    b"group",
-    b"having",
-    b"in",
-    b"inner",
-    b"insert",
-    b"integer",
-    b"into",
-    b"is",
-    b"join",
-    b"key",
-    b"like",
-    b"limit",
-    b"max",
-    b"min",
-    b"not",
-    b"null",
-    b"on",
-    b"or",
-    b"order",
-    b"primary",
-    b"purge",
-    b"restore",
-    b"rollback",
-    b"select",
-    b"set",
-    b"sum",
-    b"update",
-    b"values",
-    b"varchar",
-    b"where",
+/// The words that have a meaning of their own, and so name nothing: those of two letters.
+const OF_TWO: [&[u8]; 6] = [b"as", b"by", b"in", b"is", b"on", b"or"];
+
+/// Those of three.
+const OF_THREE: [&[u8]; 8] = [
+    b"and", b"asc", b"key", b"max", b"min", b"not", b"set", b"sum",
 ];
+
+/// Those of four.
+const OF_FOUR: [&[u8]; 7] = [
+    b"date", b"desc", b"from", b"into", b"join", b"like", b"null",
+];
+
+/// Those of five.
+const OF_FIVE: [&[u8]; 8] = [
+    b"begin", b"count", b"group", b"inner", b"limit", b"order", b"purge", b"where",
+];
+
+/// Those of six.
+const OF_SIX: [&[u8]; 7] = [
+    b"commit", b"delete", b"having", b"insert", b"select", b"update", b"values",
+];
+
+/// Those of seven.
+const OF_SEVEN: [&[u8]; 5] = [b"between", b"integer", b"primary", b"restore", b"varchar"];
+
+/// Those of eight.
+const OF_EIGHT: [&[u8]; 2] = [b"distinct", b"rollback"];
 
 /// Whether a word is reserved, in any ASCII case.
 pub fn is_reserved(word: &[u8]) -> bool
     ensures { result ≡ is_reserved_name (map lower word.now) }
 {
-    is_among(word, &RESERVED)
+    match word.len() {
+        2 => is_among(word, &OF_TWO),
+        3 => is_among(word, &OF_THREE),
+        4 => is_among(word, &OF_FOUR),
+        5 => is_among(word, &OF_FIVE),
+        6 => is_among(word, &OF_SIX),
+        7 => is_among(word, &OF_SEVEN),
+        8 => is_among(word, &OF_EIGHT),
+        _ => false,
+    }
 }
 
 /// Whether a word is one of these words, in any ASCII case.

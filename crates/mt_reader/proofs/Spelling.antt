@@ -11,7 +11,7 @@ use Rattle.mt_reader.specs.Forms.{Form, Separated, WithSemicolon}
 use Rattle.mt_reader.specs.Fronts.{Begins, AtEnd}
 use Rattle.mt_reader.specs.Descent.{is_same, after, name_of, number_of, items_of, items_behind, separated_of, with_front, ended, end_of}
 use Rattle.mt_lexer.specs.Reserved.{is_reserved_name}
-use Rattle.mt_reader.proofs.Shrinking.{bind_some, guard_some, test_some, same_tree, same_rest, after_shrinks}
+use Rattle.mt_reader.proofs.Shrinking.{bind_some, guard_some, test_some, same_tree, same_rest}
 
 -- lexemes that pass the test are one
 is_same-true : (a b : Lexeme) → is_same a b ≡ true → a ≡ b
@@ -113,23 +113,6 @@ module _ {T : Type 0} (form : Form T) (read : List Lexeme → Option (T × List 
   pub separated_sound : IsSound form read → IsSound (Separated form by) (separated_of read by)
   unfolding separated_of
   separated_sound sound lexemes rest trees e = items_sound sound (length lexemes) lexemes rest trees e
-
-  -- items take a lexeme at least, as the first of them does
-  items_shrink : Shrinks read → (fuel : ℕ) (lexemes rest : List Lexeme) (trees : List T) → items_of read by fuel lexemes ≡ Some (trees, rest) → length rest < length lexemes
-  items_shrink shrinks zero lexemes rest trees e = cc
-  items_shrink shrinks (suc fuel) lexemes rest trees e =
-      let p = bind_some (read lexemes) _ (trees, rest) e in
-      behind p.0.1 p.0.0 (shrinks lexemes p.0.1 p.0.0 p.1) (after by p.0.1) refl p.2 (items_shrink shrinks fuel) where
-        behind : (mid : List Lexeme) (x : T) → length mid < length lexemes → (found : Option (List Lexeme)) → after by mid ≡ found → with_front (x ∷ []) (items_behind (items_of read by fuel) mid found) ≡ Some (trees, rest) → ((left rest : List Lexeme) (more : List T) → items_of read by fuel left ≡ Some (more, rest) → length rest < length left) → length rest < length lexemes
-        behind mid x shorter None c e more = let same : mid ≡ rest = same_rest e in omega (arith, ap length same)
-        behind mid x shorter (Some left) c e more =
-            let p = bind_some (items_of read by fuel left) _ (trees, rest) e in
-            let same : p.0.1 ≡ rest = same_rest p.2 in
-            omega (arith, ap length same, after_shrinks by mid left c, more left p.0.1 p.0.0 p.1)
-
-  pub separated_shrinks : Shrinks read → Shrinks (separated_of read by)
-  unfolding separated_of
-  separated_shrinks shrinks lexemes rest trees e = items_shrink shrinks (length lexemes) lexemes rest trees e
 
   -- items that are spelled with the separator between are read, where no other follows
   module _ (ends : List Lexeme → Type 0) (same : is_same by by ≡ true) (goes_on : (rest : List Lexeme) → ends (by ∷ rest)) (complete : IsCompleteBefore form ends read) (shrinks : Shrinks read) where

@@ -1,6 +1,7 @@
 //! What every reader of the language shares: the tokens that are left, words, names, numbers, texts,
-//! literals, and lists with commas. It promises that each reader takes what its form spells and else
-//! says so, and that a number outside 64 bits is told apart while the reading goes on.
+//! literals, and lists with commas. It promises that each reader takes exactly what the functions of
+//! specs/Descent read and else fails, and tells a number outside 64 bits apart while the reading goes
+//! on. That these functions read the forms of the grammar is shown by the crates above, form by form.
 #![tactic(auto)]
 
 mod digits;
@@ -15,7 +16,6 @@ pub use digits::size_of;
 pub use fault::ReadFault;
 pub use literal::LiteralForm;
 pub use parse::ParseFault;
-pub use piece::Piece;
 pub use production::{NameForm, Production, bracketed, optional, pushed, separated};
 pub use reader::Reader;
 

@@ -12,7 +12,7 @@ use crate::digits::{integer_of, negative_of};
 use crate::piece::{Piece, undoubled};
 use crate::production::Production;
 use crate::reader::{Reader, text_of};
-use mt_lexer::Symbol;
+use mt_lexer::{Symbol, is_same_word};
 use mt_tree::Literal;
 use std::alloc::{AllocError, Global};
 
@@ -34,13 +34,16 @@ impl Production for LiteralForm {
     }
 }
 
-/// TakesExactly a literal, by its first token.
+/// Takes a literal, by its first token.
 fn literal(alloc: Global, reader: &mut Reader<'_>) -> Result<Option<Literal>, ReadFault>
     ensures { TakesInside IsLiteralInside result reader.new (literal_of reader.old) }
 {
     match reader.peek() {
-        Some(Piece::Word(_)) => {
-            reader.word(b"null")?;
+        Some(Piece::Word(word)) => {
+            if !is_same_word(word, b"null") {
+                return Err(ReadFault::Unread);
+            }
+            reader.skip();
             Ok(Some(Literal::Null))
         }
         Some(Piece::Number(digits)) => {
@@ -51,8 +54,11 @@ fn literal(alloc: Global, reader: &mut Reader<'_>) -> Result<Option<Literal>, Re
             reader.skip();
             Ok(Some(literal_text(alloc, bytes)?))
         }
-        Some(Piece::Symbol(_)) => {
-            reader.symbol(Symbol::Minus)?;
+        Some(Piece::Symbol(symbol)) => {
+            if symbol != Symbol::Minus {
+                return Err(ReadFault::Unread);
+            }
+            reader.skip();
             let digits = reader.number()?;
             Ok(negative(digits))
         }

@@ -1,4 +1,4 @@
-ghost use Rattle.std.specs.Prelude.{◌≡◌, map, IfOk};
+ghost use Rattle.std.specs.Prelude.{◌≡◌, ◌==◌, ◌<◌, ◌++◌, length, map, position, IfOk, IfSome, IfNone};
 ghost use Rattle.mt_lexer.specs.Tokens.{IsToken, Word, Sign, lower};
 ghost use Rattle.mt_reader.specs.Descent.{is_same};
 ghost use Rattle.mt_reader.specs.Pieces.{lexeme_at, lexeme_of, word_of, digits_of, IsPiece, undoubled};
@@ -65,11 +65,14 @@ pub fn piece_of<'t>(text: &'t str, token: Token) -> Piece<'t>
     ensures says { lexeme_of result ≡ lexeme_at text.now token }
     ensures is_piece { IsPiece result }
 {
-    let bytes = &text.as_bytes()[token.from..token.upto];
+    let bytes = text.as_bytes();
     match token.kind {
-        TokenKind::Word => Piece::Word(bytes),
-        TokenKind::Number => Piece::Number(bytes),
-        TokenKind::Text => Piece::Text(&bytes[1..bytes.len() - 1]),
+        TokenKind::Word => Piece::Word(&bytes[token.from..token.upto]),
+        TokenKind::Number => Piece::Number(&bytes[token.from..token.upto]),
+        TokenKind::Text => {
+            let quoted = &bytes[token.from..token.upto];
+            Piece::Text(&quoted[1..quoted.len() - 1])
+        }
         TokenKind::Symbol(symbol) => Piece::Symbol(symbol),
     }
 }
@@ -78,15 +81,29 @@ pub fn piece_of<'t>(text: &'t str, token: Token) -> Piece<'t>
 pub fn undoubled(alloc: Global, bytes: &[u8]) -> Result<Vec<u8>, AllocError>
     ensures { IfOk result (λ text. text.items ≡ undoubled bytes.now) }
 {
-    let mut text = Vec::new(alloc);
-    let mut behind_quote = false;
-    for byte in bytes {
-        if behind_quote {
-            behind_quote = false;
-        } else {
-            text.push(*byte)?;
-            behind_quote = *byte == b'\'';
-        }
+    let mut text = Vec::with_capacity(alloc, bytes.len())?;
+    let mut rest = bytes;
+    while let Some((front, behind)) = split_quote(rest) {
+        text.extend_from_slice(front)?;
+        rest = behind;
     }
+    text.extend_from_slice(rest)?;
     Ok(text)
+}
+
+/// What stands up to the first quote, it included, and what stands behind its second.
+fn split_quote(bytes: &[u8]) -> Option<(&[u8], &[u8])>
+    ensures kept { IfSome result (λ parts. undoubled bytes.now ≡ parts.0.now ++ undoubled parts.1.now) }
+    ensures shorter { IfSome result (λ parts. length parts.1.now < length bytes.now) }
+    ensures none { IfNone result (undoubled bytes.now ≡ bytes.now) }
+{
+    let at = quote_at(bytes)?;
+    Some((&bytes[..at + 1], &bytes[bytes.len().min(at + 2)..]))
+}
+
+/// The place of the first quote.
+fn quote_at(bytes: &[u8]) -> Option<usize>
+    ensures { result ≡ position (λ b. b == 39) bytes.now }
+{
+    bytes.iter().position(|byte| *byte == b'\'')
 }

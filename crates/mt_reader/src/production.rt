@@ -21,7 +21,7 @@ pub trait Production {
 
     ghost is_inside: { Self.Tree → Type 0 };
 
-    /// TakesExactly an item, a token of it at least; `None` is one with a number outside 64 bits.
+    /// Takes an item, a token of it at least; `None` is one with a number outside 64 bits.
     fn take(alloc: Global, reader: &mut Reader<'_>) -> Result<Option<Self::Tree>, ReadFault>
         ensures taken { TakesInside is_inside result reader.new (read reader.old) }
         ensures shrinks { IfOk result (λ _. length reader.new < length reader.old) };
@@ -44,7 +44,7 @@ impl Production for NameForm {
     }
 }
 
-/// TakesExactly items with commas between them, one or more; `None` is for a number outside 64 bits.
+/// Takes items with commas between them, one or more; `None` is for a number outside 64 bits.
 pub fn separated<P: Production>(
     alloc: Global,
     reader: &mut Reader<'_>,
@@ -60,7 +60,7 @@ pub fn separated<P: Production>(
     }
 }
 
-/// TakesExactly items in brackets with commas between them, one or more; `None` is for a number outside 64
+/// Takes items in brackets with commas between them, one or more; `None` is for a number outside 64
 /// bits.
 #[tactic(auto, unfolding(crate::specs::Descent::bracketed_of))]
 pub fn bracketed<P: Production>(
@@ -75,7 +75,7 @@ pub fn bracketed<P: Production>(
     Ok(items)
 }
 
-/// TakesExactly an item behind this word, in any ASCII case, if the word comes next. The inner `None` is for
+/// Takes an item behind this word, in any ASCII case, if the word comes next. The inner `None` is for
 /// no such word, and the outer one for a number outside 64 bits.
 pub fn optional<P: Production>(
     alloc: Global,

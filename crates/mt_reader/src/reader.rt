@@ -43,7 +43,7 @@ impl<'t> Reader<'t> {
     }
 
     /// The first piece that is left.
-    pub fn peek(&self) -> Option<Piece<'t>>
+    pub(crate) fn peek(&self) -> Option<Piece<'t>>
         ensures is_piece { IfSome result IsPiece }
         ensures first { IfSome result (λ piece. self.now ≡ lexeme_of piece ∷ drop 1 self.now) }
         ensures none { IfNone result (self.now ≡ []) }
@@ -61,7 +61,7 @@ impl<'t> Reader<'t> {
         }
     }
 
-    /// TakesExactly this word, in any ASCII case, if it is the first piece.
+    /// Takes this word, in any ASCII case, if it is the first piece.
     pub fn takes_word(&mut self, word: &[u8]) -> bool
         ensures { Skips result self.old self.new (after (Word (map lower word.now)) self.old) }
     {
@@ -75,7 +75,7 @@ impl<'t> Reader<'t> {
         true
     }
 
-    /// TakesExactly this symbol, if it is the first piece.
+    /// Takes this symbol, if it is the first piece.
     pub fn takes_symbol(&mut self, symbol: Symbol) -> bool
         ensures { Skips result self.old self.new (after (Sign symbol) self.old) }
     {
@@ -89,7 +89,7 @@ impl<'t> Reader<'t> {
         true
     }
 
-    /// TakesExactly this word, in any ASCII case.
+    /// Takes this word, in any ASCII case.
     pub fn word(&mut self, word: &[u8]) -> Result<(), ReadFault>
         ensures { TakesExactly result (λ _. self.new) (after (Word (map lower word.now)) self.old) }
     {
@@ -100,7 +100,7 @@ impl<'t> Reader<'t> {
         }
     }
 
-    /// TakesExactly this symbol.
+    /// Takes this symbol.
     pub fn symbol(&mut self, symbol: Symbol) -> Result<(), ReadFault>
         ensures { TakesExactly result (λ _. self.new) (after (Sign symbol) self.old) }
     {
@@ -118,7 +118,7 @@ impl<'t> Reader<'t> {
         self.tokens.is_empty()
     }
 
-    /// TakesExactly a semicolon, if there is one, and wants nothing behind it.
+    /// Takes a semicolon, if there is one, and wants nothing behind it.
     pub fn end(&mut self) -> Result<(), ReadFault>
         ensures { TakesExactly result (λ _. tt) (end_of self.old) }
     {
@@ -177,7 +177,7 @@ impl<'t> Reader<'t> {
         }
     }
 
-    /// TakesExactly a name, and gives it in lower case.
+    /// Takes a name, and gives it in lower case.
     pub fn name(&mut self, alloc: Global) -> Result<Str, ReadFault>
         ensures { TakesExactly result (λ name. (name, self.new)) (name_of self.old) }
     {
@@ -195,7 +195,7 @@ impl<'t> Reader<'t> {
         Ok(text_of(alloc, name.as_slice())?)
     }
 
-    /// TakesExactly a number, and gives its digits.
+    /// Takes a number, and gives its digits.
     pub fn number(&mut self) -> Result<&'t [u8], ReadFault>
         ensures taken { TakesExactly result (λ digits. (digits_value 10 digits.now, self.new)) (number_of self.old) }
         ensures digits { IfOk result (λ digits. AllPass is_digit digits.now) }

@@ -61,6 +61,10 @@ fn reading(alloc: Global, text: &str) -> Result<String, Fail> {
 fn reads_names_and_literals(rt: HostRuntime) -> Result<(), Fail> {
     let table = [
         ("A 1", "a 1 "),
+        (
+            "abcdefghijklmnopqrstuvwxyz_123 1",
+            "abcdefghijklmnopqrstuvwxyz_123 1 ",
+        ),
         ("a,b NULL, - 2,'it''s';", "a b NULL -2 'it's' "),
         ("a 9223372036854775808, 1", "outside"),
         ("a -9223372036854775808", "a -9223372036854775808 "),
@@ -79,5 +83,18 @@ fn reads_names_and_literals(rt: HostRuntime) -> Result<(), Fail> {
         let got = reading(rt.alloc(), text)?;
         assert_eq!(rt; got.as_str(), want, "of {text}");
     }
+    Ok(())
+}
+
+#[test]
+fn reads_a_long_text(rt: HostRuntime) -> Result<(), Fail> {
+    let mut text = String::from_str(rt.alloc(), "a '")?;
+    for _ in 0..60_000 {
+        text.push_str("x")?;
+    }
+    text.push_str("'")?;
+    let got = reading(rt.alloc(), text.as_str())?;
+    text.push_str(" ")?;
+    assert_eq!(rt; got.as_str(), text.as_str());
     Ok(())
 }
