@@ -5,7 +5,7 @@ ghost use Rattle.mt_terms.specs.Inside.{IsAtomInside};
 
 use crate::function::aggregate;
 use crate::name::column;
-use mt_reader::{Production, LiteralForm, ReadFault, Reader};
+use mt_reader::{LiteralForm, Production, ReadFault, Reader};
 use mt_tree::{Atom, Literal};
 use std::alloc::Global;
 
