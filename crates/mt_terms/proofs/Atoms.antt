@@ -1,5 +1,5 @@
 -- Columns, aggregates and atoms: what is read is spelled so, and what is spelled so is read.
-use Rattle.std.proofs.Common.{◌≡◌, ℕ, ◌<◌, Bool, true, false, cond, Option, Some, None, List, [], ◌∷◌, ◌++◌, length, refl, sym, ap, ◌∙◌, subst, inl, inr, arith}
+use Rattle.std.proofs.Common.{◌≡◌, ℕ, ◌<◌, Bool, true, false, cond, Option, Some, None, is_some, List, [], ◌∷◌, ◌++◌, length, refl, sym, ap, ◌∙◌, subst, inl, inr, arith}
 use Rattle.std.specs.Prelude.{codes}
 use Rattle.mt_lexer.specs.declared.token.Symbol.TheVariants as symbol
 use Rattle.mt_lexer.specs.Tokens.{Lexeme, Word, Sign}
@@ -17,11 +17,12 @@ use Rattle.mt_reader.specs.Fronts.{Begins}
 use Rattle.mt_reader.specs.Literals.{SpellsLiteral}
 use Rattle.mt_lexer.specs.Reserved.{reserved}
 use Rattle.mt_reader.proofs.Bracketing.{brackets_append, closed_sound, bracketed_sound, bracketed_complete}
+use Rattle.mt_reader.proofs.Eithers.{either_some}
 use Rattle.mt_reader.proofs.Shrinking.{bind_some, same_tree, same_rest}
 use Rattle.mt_reader.proofs.Parts.{literal_sound}
 use Rattle.mt_reader.proofs.Spelling.{IsSound, IsComplete, IsCompleteBefore, after_is, name_is, Shrinks, sound_shrinks}
 use Rattle.mt_terms.specs.Expression.{SpellsNamed, SpellsColumn, Called, SpellsAgg, SpellsAtom}
-use Rattle.mt_terms.specs.Descent.{column_of, column_behind, called_of, counted_of, counted_behind, min_behind, sum_behind, count_behind, agg_of, null_behind, reserved_atom_of, column_atom_of, literal_atom_of, atom_of}
+use Rattle.mt_terms.specs.Descent.{dotted_of, column_of, called_of, all_counted_of, column_counted_of, counted_of, max_of, agg_of, agg_atom_of, reserved_atom_of, column_atom_of, literal_atom_of, atom_of}
 
 -- no dot comes first
 abbrev pub NoDot : List Lexeme → Type 0
@@ -29,33 +30,37 @@ NoDot tokens = after (Sign symbol.Dot) tokens ≡ None
 
 -- columns
 
+-- what is read behind a name and a dot is a name
+dotted_sound : (lexemes mid left rest : List Lexeme) (qualifier : List ℕ) (column : ColName) → (lexemes ≡ Word qualifier ∷ mid) × (is_reserved_name qualifier ≡ false) → mid ≡ Sign symbol.Dot ∷ left → dotted_of qualifier left ≡ Some (column, rest) → Begins SpellsColumn lexemes rest column
+dotted_sound lexemes mid left rest qualifier column n d e =
+    let b = bind_some (name_of left) _ (column, rest) e in
+    let m = name_is left b.0.1 b.0.0 b.1 in
+    let front = Word qualifier ∷ Sign symbol.Dot ∷ Word b.0.0 ∷ [] in
+    record {
+      front = front;
+      whole = n.0 ∙ ap (λ ls. Word qualifier ∷ ls) (d ∙ ap (λ ls. Sign symbol.Dot ∷ ls) (m.0 ∙ ap (λ ls. Word b.0.0 ∷ ls) (same_rest b.2)));
+      spelled = subst (SpellsColumn front) (same_tree b.2) (record {
+        front = Word qualifier ∷ [];
+        back = Sign symbol.Dot ∷ Word b.0.0 ∷ [];
+        split = refl;
+        is_left = (refl, n.1);
+        is_right = record { inner = Word b.0.0 ∷ []; prefix = refl; body = (refl, m.1) };
+      });
+    }
+
 -- what is read as a column is one
 pub column_sound : IsSound SpellsColumn column_of
 unfolding column_of
 column_sound lexemes rest column e =
     let a = bind_some (name_of lexemes) _ (column, rest) e in
-    behind a.0.0 a.0.1 (name_is lexemes a.0.1 a.0.0 a.1) (after (Sign symbol.Dot) a.0.1) refl a.2 where
-      behind : (name : List ℕ) (mid : List Lexeme) → (lexemes ≡ Word name ∷ mid) × (is_reserved_name name ≡ false) → (dot : Option (List Lexeme)) → after (Sign symbol.Dot) mid ≡ dot → column_behind name dot mid ≡ Some (column, rest) → Begins SpellsColumn lexemes rest column
-      behind name mid n None d e = record {
-        front = Word name ∷ [];
-        whole = n.0 ∙ ap (λ ls. Word name ∷ ls) (same_rest e);
-        spelled = subst (SpellsColumn (Word name ∷ [])) (same_tree e) (refl, n.1);
-      }
-      behind name mid n (Some left) d e =
-          let b = bind_some (name_of left) _ (column, rest) e in
-          let m = name_is left b.0.1 b.0.0 b.1 in
-          let front = Word name ∷ Sign symbol.Dot ∷ Word b.0.0 ∷ [] in
-          record {
-            front = front;
-            whole = n.0 ∙ ap (λ ls. Word name ∷ ls) (after_is _ mid left d ∙ ap (λ ls. Sign symbol.Dot ∷ ls) (m.0 ∙ ap (λ ls. Word b.0.0 ∷ ls) (same_rest b.2)));
-            spelled = subst (SpellsColumn front) (same_tree b.2) (record {
-              front = Word name ∷ [];
-              back = Sign symbol.Dot ∷ Word b.0.0 ∷ [];
-              split = refl;
-              is_left = (refl, n.1);
-              is_right = record { inner = Word b.0.0 ∷ []; prefix = refl; body = (refl, m.1) };
-            });
-          }
+    let n = name_is lexemes a.0.1 a.0.0 a.1 in
+    either_some (after (Sign symbol.Dot) a.0.1) (dotted_of a.0.0) _ (column, rest) (λ left d e. dotted_sound lexemes a.0.1 left rest a.0.0 column n (after_is _ a.0.1 left d) e)
+    (λ e. record {
+      front = Word a.0.0 ∷ [];
+      whole = n.0 ∙ ap (λ ls. Word a.0.0 ∷ ls) (same_rest e);
+      spelled = subst (SpellsColumn (Word a.0.0 ∷ [])) (same_tree e) (refl, n.1);
+    })
+    a.2
 
 -- a name is read, where no dot follows
 name_complete : (name : List ℕ) (more : List Lexeme) → is_reserved_name name ≡ false → NoDot more → column_of (Word name ∷ more) ≡ Some (record { qualifier = None; name = name }, more)
@@ -100,55 +105,55 @@ called_sound word function as_agg lexemes left rest found h e =
       spelled = subst (SpellsAgg front) (same_tree a.2) (as_agg front a.0.0 (record { inner = s.front; prefix = refl; body = s.spelled }));
     }
 
+-- what is read behind COUNT, a bracket and the star is a count of all
+all_counted_sound : (lexemes star rest : List Lexeme) (found : Agg) → lexemes ≡ Word (codes "count") ∷ Sign symbol.Open ∷ Sign symbol.Star ∷ star → all_counted_of star ≡ Some (found, rest) → Begins SpellsAgg lexemes rest found
+all_counted_sound lexemes star rest found h e =
+    let b = bind_some (after (Sign symbol.Close) star) _ (found, rest) e in
+    let last : b.0 ≡ rest = same_rest b.2 in
+    let open_ = Word (codes "count") ∷ Sign symbol.Open ∷ Sign symbol.Star ∷ [] in
+    let front = open_ ++ Sign symbol.Close ∷ [] in
+    record {
+      front = front;
+      whole = h ∙ ap (λ ls. open_ ++ ls) (after_is _ star b.0 b.1 ∙ ap (λ ls. Sign symbol.Close ∷ ls) last);
+      spelled = subst (SpellsAgg front) (same_tree b.2) refl;
+    }
+
+-- what is read behind COUNT and a bracket is a count of a column
+column_counted_sound : (lexemes left mid rest : List Lexeme) (found : Agg) → lexemes ≡ Word (codes "count") ∷ left → left ≡ Sign symbol.Open ∷ mid → column_counted_of mid ≡ Some (found, rest) → Begins SpellsAgg lexemes rest found
+column_counted_sound lexemes left mid rest found h o e =
+    let b = bind_some (closed_of column_of mid) _ (found, rest) e in
+    let s = closed_sound SpellsColumn column_of column_sound left mid b.0.1 b.0.0 o b.1 in
+    let front = Word (codes "count") ∷ s.front in
+    record {
+      front = front;
+      whole = h ∙ ap (λ ls. Word (codes "count") ∷ ls) (s.whole ∙ ap (λ ls. s.front ++ ls) (same_rest b.2));
+      spelled = subst (SpellsAgg front) (same_tree b.2) (record { inner = s.front; prefix = refl; body = s.spelled });
+    }
+
 -- what is read behind COUNT is a count
 counted_sound : (lexemes left rest : List Lexeme) (found : Agg) → lexemes ≡ Word (codes "count") ∷ left → counted_of left ≡ Some (found, rest) → Begins SpellsAgg lexemes rest found
 unfolding counted_of
 counted_sound lexemes left rest found h e =
     let a = bind_some (after (Sign symbol.Open) left) _ (found, rest) e in
-    behind a.0 (after_is _ left a.0 a.1) (after (Sign symbol.Star) a.0) refl a.2 where
-      behind : (mid : List Lexeme) → left ≡ Sign symbol.Open ∷ mid → (star : Option (List Lexeme)) → after (Sign symbol.Star) mid ≡ star → counted_behind star mid ≡ Some (found, rest) → Begins SpellsAgg lexemes rest found
-      behind mid o (Some star) a e =
-          let b = bind_some (after (Sign symbol.Close) star) _ (found, rest) e in
-          let last : b.0 ≡ rest = same_rest b.2 in
-          let front = Word (codes "count") ∷ Sign symbol.Open ∷ Sign symbol.Star ∷ Sign symbol.Close ∷ [] in
-          record {
-            front = front;
-            whole = h ∙ ap (λ ls. Word (codes "count") ∷ ls) (o ∙ ap (λ ls. Sign symbol.Open ∷ ls) (after_is _ mid star a ∙ ap (λ ls. Sign symbol.Star ∷ ls) (after_is _ star b.0 b.1 ∙ ap (λ ls. Sign symbol.Close ∷ ls) last)));
-            spelled = subst (SpellsAgg front) (same_tree b.2) refl;
-          }
-      behind mid o None a e =
-          let b = bind_some (closed_of column_of mid) _ (found, rest) e in
-          let s = closed_sound SpellsColumn column_of column_sound left mid b.0.1 b.0.0 o b.1 in
-          let front = Word (codes "count") ∷ s.front in
-          record {
-            front = front;
-            whole = h ∙ ap (λ ls. Word (codes "count") ∷ ls) (s.whole ∙ ap (λ ls. s.front ++ ls) (same_rest b.2));
-            spelled = subst (SpellsAgg front) (same_tree b.2) (record { inner = s.front; prefix = refl; body = s.spelled });
-          }
-
--- where there is no SUM
-min_sound : (lexemes rest : List Lexeme) (found : Agg) → min_behind (after (Word (codes "min")) lexemes) lexemes ≡ Some (found, rest) → Begins SpellsAgg lexemes rest found
-min_sound lexemes rest found e = by_word (after (Word (codes "min")) lexemes) refl e where
-  by_word : (min : Option (List Lexeme)) → after (Word (codes "min")) lexemes ≡ min → min_behind min lexemes ≡ Some (found, rest) → Begins SpellsAgg lexemes rest found
-  by_word (Some left) a e = called_sound (codes "min") agg.Min (λ tokens column s. s) lexemes left rest found (after_is _ lexemes left a) e
-  by_word None a e =
-      let b = bind_some (after (Word (codes "max")) lexemes) _ (found, rest) e in
-      called_sound (codes "max") agg.Max (λ tokens column s. s) lexemes b.0 rest found (after_is _ lexemes b.0 b.1) b.2
-
--- where there is no COUNT
-sum_sound : (lexemes rest : List Lexeme) (found : Agg) → sum_behind (after (Word (codes "sum")) lexemes) lexemes ≡ Some (found, rest) → Begins SpellsAgg lexemes rest found
-sum_sound lexemes rest found e = by_word (after (Word (codes "sum")) lexemes) refl e where
-  by_word : (sum : Option (List Lexeme)) → after (Word (codes "sum")) lexemes ≡ sum → sum_behind sum lexemes ≡ Some (found, rest) → Begins SpellsAgg lexemes rest found
-  by_word (Some left) a e = called_sound (codes "sum") agg.Sum (λ tokens column s. s) lexemes left rest found (after_is _ lexemes left a) e
-  by_word None a e = min_sound lexemes rest found e
+    let o = after_is _ left a.0 a.1 in
+    either_some (after (Sign symbol.Star) a.0) all_counted_of (column_counted_of a.0) (found, rest)
+    (λ star d e. all_counted_sound lexemes star rest found (h ∙ ap (λ ls. Word (codes "count") ∷ ls) (o ∙ ap (λ ls. Sign symbol.Open ∷ ls) (after_is _ a.0 star d))) e)
+    (λ e. column_counted_sound lexemes left a.0 rest found h o e)
+    a.2
 
 -- what is read as an aggregate is one
 pub agg_sound : IsSound SpellsAgg agg_of
 unfolding agg_of
-agg_sound lexemes rest found e = by_word (after (Word (codes "count")) lexemes) refl e where
-  by_word : (count : Option (List Lexeme)) → after (Word (codes "count")) lexemes ≡ count → count_behind count lexemes ≡ Some (found, rest) → Begins SpellsAgg lexemes rest found
-  by_word (Some left) a e = counted_sound lexemes left rest found (after_is _ lexemes left a) e
-  by_word None a e = sum_sound lexemes rest found e
+agg_sound lexemes rest found e =
+    either_some (after (Word (codes "count")) lexemes) counted_of _ (found, rest) (λ left a e. counted_sound lexemes left rest found (after_is _ lexemes left a) e)
+    (λ e. either_some (after (Word (codes "sum")) lexemes) (called_of agg.Sum) _ (found, rest) (λ left a e. called_sound (codes "sum") agg.Sum (λ tokens column s. s) lexemes left rest found (after_is _ lexemes left a) e)
+    (λ e. either_some (after (Word (codes "min")) lexemes) (called_of agg.Min) _ (found, rest) (λ left a e. called_sound (codes "min") agg.Min (λ tokens column s. s) lexemes left rest found (after_is _ lexemes left a) e)
+    max_sound e) e) e
+  where
+    max_sound : max_of lexemes ≡ Some (found, rest) → Begins SpellsAgg lexemes rest found
+    max_sound e =
+        let b = bind_some (after (Word (codes "max")) lexemes) _ (found, rest) e in
+        called_sound (codes "max") agg.Max (λ tokens column s. s) lexemes b.0 rest found (after_is _ lexemes b.0 b.1) b.2
 
 -- a column begins with no star
 no_star : (lexemes rest : List Lexeme) (column : ColName) → column_of lexemes ≡ Some (column, rest) → after (Sign symbol.Star) lexemes ≡ None
@@ -197,7 +202,7 @@ column_atom_sound lexemes rest found e =
     let s = column_sound lexemes a.0.1 a.0.0 a.1 in
     record { front = s.front; whole = s.whole ∙ ap (λ ls. s.front ++ ls) (same_rest a.2); spelled = subst (SpellsAtom s.front) (same_tree a.2) s.spelled }
 
--- what begins with no word
+-- a literal
 literal_atom_sound : IsSound SpellsAtom literal_atom_of
 unfolding literal_atom_of
 literal_atom_sound lexemes rest found e =
@@ -205,20 +210,20 @@ literal_atom_sound lexemes rest found e =
     let s = literal_sound lexemes a.0.1 a.0.0 a.1 in
     record { front = s.front; whole = s.whole ∙ ap (λ ls. s.front ++ ls) (same_rest a.2); spelled = subst (SpellsAtom s.front) (same_tree a.2) s.spelled }
 
+-- an aggregate
+agg_atom_sound : IsSound SpellsAtom agg_atom_of
+agg_atom_sound lexemes rest found e =
+    let b = bind_some (agg_of lexemes) _ (found, rest) e in
+    let s = agg_sound lexemes b.0.1 b.0.0 b.1 in
+    record { front = s.front; whole = s.whole ∙ ap (λ ls. s.front ++ ls) (same_rest b.2); spelled = subst (SpellsAtom s.front) (same_tree b.2) s.spelled }
+
 -- what a reserved word begins
 reserved_atom_sound : IsSound SpellsAtom reserved_atom_of
 unfolding reserved_atom_of
-reserved_atom_sound lexemes rest found e = by_word (after (Word (codes "null")) lexemes) refl e where
-  by_word : (null : Option (List Lexeme)) → after (Word (codes "null")) lexemes ≡ null → null_behind null lexemes ≡ Some (found, rest) → Begins SpellsAtom lexemes rest found
-  by_word (Some left) a e = record {
-    front = Word (codes "null") ∷ [];
-    whole = after_is _ lexemes left a ∙ ap (λ ls. Word (codes "null") ∷ ls) (same_rest e);
-    spelled = subst (SpellsAtom (Word (codes "null") ∷ [])) (same_tree e) refl;
-  }
-  by_word None a e =
-      let b = bind_some (agg_of lexemes) _ (found, rest) e in
-      let s = agg_sound lexemes b.0.1 b.0.0 b.1 in
-      record { front = s.front; whole = s.whole ∙ ap (λ ls. s.front ++ ls) (same_rest b.2); spelled = subst (SpellsAtom s.front) (same_tree b.2) s.spelled }
+reserved_atom_sound lexemes rest found e = by_null (is_some (after (Word (codes "null")) lexemes)) e where
+  by_null : (null : Bool) → cond null (literal_atom_of lexemes) (agg_atom_of lexemes) ≡ Some (found, rest) → Begins SpellsAtom lexemes rest found
+  by_null true e = literal_atom_sound lexemes rest found e
+  by_null false e = agg_atom_sound lexemes rest found e
 
 -- what is read as an atom is one
 pub atom_sound : IsSound SpellsAtom atom_of

@@ -7,11 +7,12 @@ use Rattle.mt_lexer.specs.Tokens.{Lexeme, Word, Sign}
 use Rattle.mt_tree.specs.declared.expression.Atom.{Atom}
 use Rattle.mt_tree.specs.declared.expression.Cond.{Cond}
 use Rattle.mt_tree.specs.declared.expression.Cond.TheVariants as cond
-use Rattle.mt_reader.specs.Descent.{after, literal_of}
+use Rattle.mt_reader.specs.Descent.{after, either, closed_of, literal_of}
 use Rattle.mt_reader.specs.Forms.{Form, Joined}
 use Rattle.mt_reader.specs.Fronts.{Begins}
 use Rattle.mt_lexer.specs.Reserved.{reserved}
 use Rattle.mt_reader.proofs.Bracketing.{brackets_append, closed_sound, closed_read}
+use Rattle.mt_reader.proofs.Eithers.{either_some}
 use Rattle.mt_reader.proofs.Shrinking.{bind_some, same_tree, same_rest}
 use Rattle.mt_reader.proofs.Joining.{joined_sound, joined_complete_before}
 use Rattle.mt_reader.proofs.Spelling.{IsSound, IsCompleteBefore, Shrinks, sound_shrinks, separated_nonempty, after_is}
@@ -19,7 +20,7 @@ use Rattle.mt_terms.specs.declared.test.Test.{Test}
 use Rattle.mt_terms.specs.declared.test.Test.TheVariants as test
 use Rattle.mt_terms.specs.Condition.{AtomThen, SpellsPlain, SpellsOr, SpellsNeg, SpellsCond}
 use Rattle.mt_terms.specs.Expression.{SpellsAtom}
-use Rattle.mt_terms.specs.Descent.{atom_of, literal_atom_of, reserved_atom_of, agg_of, test_of, cond_with, plain_of, and_of, or_of, open_behind, neg_behind, neg_of, cond_of}
+use Rattle.mt_terms.specs.Descent.{atom_of, literal_atom_of, reserved_atom_of, agg_of, test_of, cond_with, plain_of, and_of, or_of, denied_of, neg_of, cond_of}
 use Rattle.mt_terms.proofs.Atoms.{NoDot, atom_sound, atom_complete, atom_nonempty}
 use Rattle.mt_terms.proofs.Predicates.{SpellsTest, test_sound, test_complete, test_ends}
 
@@ -159,13 +160,13 @@ neg_nonempty (suc depth) front c s = elim s [
 
 module _ (depth : ℕ) (lexemes rest : List Lexeme) (c : Cond) where
   -- behind a bracket
-  bracket_sound : IsSound (SpellsOr (SpellsNeg depth)) (or_of (neg_of depth)) → (left : List Lexeme) → lexemes ≡ Sign symbol.Open ∷ left → open_behind (neg_of depth) (Some left) lexemes ≡ Some (c, rest) → Begins (SpellsNeg (suc depth)) lexemes rest c
+  bracket_sound : IsSound (SpellsOr (SpellsNeg depth)) (or_of (neg_of depth)) → (left : List Lexeme) → lexemes ≡ Sign symbol.Open ∷ left → closed_of (or_of (neg_of depth)) left ≡ Some (c, rest) → Begins (SpellsNeg (suc depth)) lexemes rest c
   bracket_sound sound left h e =
       let s = closed_sound (SpellsOr (SpellsNeg depth)) (or_of (neg_of depth)) sound lexemes left rest c h e in
       record { front = s.front; whole = s.whole; spelled = inr (inr s.spelled) }
 
   -- behind NOT
-  not_sound : IsSound (SpellsNeg depth) (neg_of depth) → (left : List Lexeme) → lexemes ≡ Word (codes "not") ∷ left → neg_behind (neg_of depth) (Some left) lexemes ≡ Some (c, rest) → Begins (SpellsNeg (suc depth)) lexemes rest c
+  not_sound : IsSound (SpellsNeg depth) (neg_of depth) → (left : List Lexeme) → lexemes ≡ Word (codes "not") ∷ left → denied_of (neg_of depth) left ≡ Some (c, rest) → Begins (SpellsNeg (suc depth)) lexemes rest c
   not_sound sound left h e =
       let a = bind_some (neg_of depth left) _ (c, rest) e in
       let s = sound left a.0.1 a.0.0 a.1 in
@@ -184,14 +185,12 @@ module _ (depth : ℕ) (lexemes rest : List Lexeme) (c : Cond) where
 pub neg_sound : (depth : ℕ) → IsSound (SpellsNeg depth) (neg_of depth)
 unfolding neg_of
 neg_sound zero lexemes rest c e = plain_sound lexemes rest c e
-neg_sound (suc depth) lexemes rest c e = by_not (neg_sound depth) (after (Word (codes "not")) lexemes) refl e where
-  by_open : IsSound (SpellsNeg depth) (neg_of depth) → (found : Option (List Lexeme)) → after (Sign symbol.Open) lexemes ≡ found → open_behind (neg_of depth) found lexemes ≡ Some (c, rest) → Begins (SpellsNeg (suc depth)) lexemes rest c
-  by_open sound None a e = plain_neg depth lexemes rest c e
-  by_open sound (Some left) a e = bracket_sound depth lexemes rest c (or_sound (SpellsNeg depth) (neg_of depth) sound) left (after_is _ lexemes left a) e
-
-  by_not : IsSound (SpellsNeg depth) (neg_of depth) → (found : Option (List Lexeme)) → after (Word (codes "not")) lexemes ≡ found → neg_behind (neg_of depth) found lexemes ≡ Some (c, rest) → Begins (SpellsNeg (suc depth)) lexemes rest c
-  by_not sound None a e = by_open sound (after (Sign symbol.Open) lexemes) refl e
-  by_not sound (Some left) a e = not_sound depth lexemes rest c sound left (after_is _ lexemes left a) e
+neg_sound (suc depth) lexemes rest c e =
+    let sound = neg_sound depth in
+    either_some (after (Word (codes "not")) lexemes) (denied_of (neg_of depth)) _ (c, rest) (λ left a e. not_sound depth lexemes rest c sound left (after_is _ lexemes left a) e)
+    (λ e. either_some (after (Sign symbol.Open) lexemes) (closed_of (or_of (neg_of depth))) (plain_of lexemes) (c, rest)
+    (λ left a e. bracket_sound depth lexemes rest c (or_sound (SpellsNeg depth) (neg_of depth) sound) left (after_is _ lexemes left a) e)
+    (λ e. plain_neg depth lexemes rest c e) e) e
 
 -- and so takes a lexeme at least
 pub neg_shrinks : (depth : ℕ) → Shrinks (neg_of depth)
@@ -205,8 +204,9 @@ and_shrinks depth = sound_shrinks (SpellsAnd (SpellsNeg depth) (neg_of depth)) (
 plain_up : (depth : ℕ) (lexemes more : List Lexeme) (c : Cond) → plain_of lexemes ≡ Some (c, more) → neg_of (suc depth) lexemes ≡ Some (c, more)
 unfolding neg_of
 plain_up depth lexemes more c read =
-    ap (λ found. neg_behind (neg_of depth) found lexemes) (not_first (Word (codes "not")) no_plain_not lexemes more c read)
-    ∙ ap (λ found. open_behind (neg_of depth) found lexemes) (not_first (Sign symbol.Open) no_plain_open lexemes more c read)
+    let in_brackets = closed_of (or_of (neg_of depth)) in
+    ap (λ found. either found (denied_of (neg_of depth)) (either (after (Sign symbol.Open) lexemes) in_brackets (plain_of lexemes))) (not_first (Word (codes "not")) no_plain_not lexemes more c read)
+    ∙ ap (λ found. either found in_brackets (plain_of lexemes)) (not_first (Sign symbol.Open) no_plain_open lexemes more c read)
     ∙ read
 
 -- a NOT is read

@@ -7,15 +7,16 @@ use Rattle.mt_tree.specs.declared.expression.Atom.{Atom}
 use Rattle.mt_tree.specs.declared.expression.Expr.{Expr}
 use Rattle.mt_tree.specs.declared.expression.Expr.TheVariants as expr
 use Rattle.mt_tree.specs.declared.expression.Term.{Term}
-use Rattle.mt_reader.specs.Descent.{after, literal_of, with_front}
+use Rattle.mt_reader.specs.Descent.{after, either, closed_of, literal_of, with_front}
 use Rattle.mt_reader.specs.Forms.{Form, Bracketed}
 use Rattle.mt_reader.specs.Fronts.{Begins}
 use Rattle.mt_reader.proofs.Bracketing.{brackets_append, closed_sound}
+use Rattle.mt_reader.proofs.Eithers.{either_some}
 use Rattle.mt_reader.proofs.Shrinking.{bind_some, same_tree, same_rest}
 use Rattle.mt_reader.proofs.Joining.{joined_sound, joined_complete_before}
 use Rattle.mt_reader.proofs.Spelling.{IsSound, IsCompleteBefore, Shrinks, sound_shrinks, separated_nonempty, after_is}
 use Rattle.mt_terms.specs.Expression.{SpellsAtomAlone, SpellsTerm, sign_of as sign_lexeme, SpellsTail, SpellsSum, SpellsFactor, SpellsExpr}
-use Rattle.mt_terms.specs.Descent.{atom_of, literal_atom_of, alone_of, term_of, sign_of, tail_of, tail_behind, terms_of, sum_tree, sum_of, factor_behind, factor_of, expr_of}
+use Rattle.mt_terms.specs.Descent.{atom_of, literal_atom_of, alone_of, term_of, sign_of, tail_of, tail_behind, terms_of, sum_tree, sum_of, factor_of, expr_of}
 use Rattle.mt_terms.proofs.Atoms.{NoDot, atom_sound, atom_complete, atom_nonempty}
 use Rattle.mt_terms.proofs.Tails.{sign_is, tail_of-sign, tail_of-end}
 
@@ -65,7 +66,7 @@ EndsSum tokens = EndsTerm tokens × (sign_of tokens ≡ None)
 
 -- a sign is taken
 sign_of-lexeme : (minus : Bool) (rest : List Lexeme) → sign_of (sign_lexeme minus ∷ rest) ≡ Some (minus, rest)
-unfolding sign_of after
+unfolding sign_of
 sign_of-lexeme true rest = refl
 sign_of-lexeme false rest = refl
 
@@ -215,12 +216,13 @@ factor_nonempty (suc depth) front e s = elim s [ inl one ↦ atom_nonempty front
 pub factor_sound : (depth : ℕ) → IsSound (SpellsFactor depth) (factor_of depth)
 unfolding factor_of
 factor_sound zero lexemes rest e h = alone_sound lexemes rest e h
-factor_sound (suc depth) lexemes rest e h = by_open (sum_sound (SpellsFactor depth) (factor_of depth) (factor_sound depth)) (after (Sign symbol.Open) lexemes) refl h where
-  by_open : IsSound (SpellsSum (SpellsFactor depth)) (sum_of (factor_of depth)) → (found : Option (List Lexeme)) → after (Sign symbol.Open) lexemes ≡ found → factor_behind (sum_of (factor_of depth)) found lexemes ≡ Some (e, rest) → Begins (SpellsFactor (suc depth)) lexemes rest e
-  by_open sound None a h = let s = alone_sound lexemes rest e h in record { front = s.front; whole = s.whole; spelled = inl s.spelled }
-  by_open sound (Some left) a h =
-      let s = closed_sound (SpellsSum (SpellsFactor depth)) (sum_of (factor_of depth)) sound lexemes left rest e (after_is _ lexemes left a) h in
-      record { front = s.front; whole = s.whole; spelled = inr s.spelled }
+factor_sound (suc depth) lexemes rest e h =
+    let sound = sum_sound (SpellsFactor depth) (factor_of depth) (factor_sound depth) in
+    either_some (after (Sign symbol.Open) lexemes) (closed_of (sum_of (factor_of depth))) (alone_of lexemes) (e, rest)
+    (λ left a h.
+    let s = closed_sound (SpellsSum (SpellsFactor depth)) (sum_of (factor_of depth)) sound lexemes left rest e (after_is _ lexemes left a) h in
+    record { front = s.front; whole = s.whole; spelled = inr s.spelled })
+    (λ h. let s = alone_sound lexemes rest e h in record { front = s.front; whole = s.whole; spelled = inl s.spelled }) h
 
 -- and so takes a lexeme at least
 pub factor_shrinks : (depth : ℕ) → Shrinks (factor_of depth)
@@ -238,7 +240,7 @@ ends_before_close rest = ((refl, refl), refl)
 -- an atom is read as a factor
 alone_factor : (depth : ℕ) (lexemes more : List Lexeme) (e : Expr) → alone_of lexemes ≡ Some (e, more) → factor_of (suc depth) lexemes ≡ Some (e, more)
 unfolding factor_of
-alone_factor depth lexemes more e read = ap (λ found. factor_behind (sum_of (factor_of depth)) found lexemes) (no_open lexemes more e read) ∙ read
+alone_factor depth lexemes more e read = ap (λ found. either found (closed_of (sum_of (factor_of depth))) (alone_of lexemes)) (no_open lexemes more e read) ∙ read
 
 -- a sum in brackets is read as a factor
 bracketed_factor : (depth : ℕ) (inner more : List Lexeme) (e : Expr) → sum_of (factor_of depth) (inner ++ Sign symbol.Close ∷ more) ≡ Some (e, Sign symbol.Close ∷ more) → factor_of (suc depth) (Sign symbol.Open ∷ (inner ++ Sign symbol.Close ∷ more)) ≡ Some (e, more)

@@ -7,10 +7,10 @@ use Rattle.mt_lexer.specs.Tokens.{Lexeme, Word, Sign}
 use Rattle.mt_tree.specs.declared.expression.Cond.{Cond}
 use Rattle.mt_tree.specs.declared.expression.Cond.TheVariants as cond
 use Rattle.mt_reader.specs.declared.fault.ReadFault.{ReadFault}
-use Rattle.mt_reader.specs.Descent.{after}
+use Rattle.mt_reader.specs.Descent.{after, either, closed_of}
 use Rattle.mt_reader.specs.Taken.{Took, Fails}
 use Rattle.mt_reader.proofs.Literals.{fails_bind}
-use Rattle.mt_terms.specs.Descent.{plain_of, or_of, open_behind, neg_behind, neg_of}
+use Rattle.mt_terms.specs.Descent.{plain_of, or_of, denied_of, neg_of}
 use Rattle.mt_terms.specs.Inside.{IsCondInside}
 use Rattle.mt_terms.proofs.Inside.{keeps_not}
 
@@ -21,6 +21,11 @@ bracket_behind inner = option_and_then (λ close. Some (inner.0, close)) (after 
 abbrev denied : Cond × List Lexeme → Option (Cond × List Lexeme)
 denied inner = Some (cond.Not inner.0, inner.1)
 
+-- with so many levels left, behind NOT or not
+abbrev denied_or_open : ℕ → Option (List Lexeme) → List Lexeme → Option (Cond × List Lexeme)
+denied_or_open depth found lexemes =
+    either found (denied_of (neg_of depth)) (either (after (Sign symbol.Open) lexemes) (closed_of (or_of (neg_of depth))) (plain_of lexemes))
+
 -- with no level left there is a predicate
 pub neg_of-none : (depth : ℕ) (lexemes : List Lexeme) → depth ≡ 0 → neg_of depth lexemes ≡ plain_of lexemes
 unfolding neg_of
@@ -28,16 +33,16 @@ neg_of-none zero lexemes h = refl
 neg_of-none (suc depth) lexemes h = absurd (omega arith)
 
 -- NOT and a bracket take one level
-neg_of-some : (depth : ℕ) (lexemes : List Lexeme) → (depth ≡ 0 → ⊥) → neg_of depth lexemes ≡ neg_behind (neg_of (depth - 1)) (after (Word (codes "not")) lexemes) lexemes
+neg_of-some : (depth : ℕ) (lexemes : List Lexeme) → (depth ≡ 0 → ⊥) → neg_of depth lexemes ≡ denied_or_open (depth - 1) (after (Word (codes "not")) lexemes) lexemes
 unfolding neg_of
 neg_of-some zero lexemes h = absurd (omega arith)
-neg_of-some (suc depth) lexemes h = let same : depth ≡ suc depth - 1 = omega arith in ap (λ d. neg_behind (neg_of d) (after (Word (codes "not")) lexemes) lexemes) same
+neg_of-some (suc depth) lexemes h = let same : depth ≡ suc depth - 1 = omega arith in ap (λ d. denied_or_open d (after (Word (codes "not")) lexemes) lexemes) same
 
 module _ (depth : ℕ) (lexemes : List Lexeme) (some : depth ≡ 0 → ⊥) where
   module _ (mid : List Lexeme) (taken : after (Word (codes "not")) lexemes ≡ Some mid) where
     -- behind NOT
     neg_of-not : neg_of depth lexemes ≡ option_and_then denied (neg_of (depth - 1) mid)
-    neg_of-not = neg_of-some depth lexemes some ∙ ap (λ found. neg_behind (neg_of (depth - 1)) found lexemes) taken
+    neg_of-not = neg_of-some depth lexemes some ∙ ap (λ found. denied_or_open (depth - 1) found lexemes) taken
 
     -- why the condition behind NOT fails
     pub not_fails : (e : ReadFault) → Fails e (neg_of (depth - 1) mid) → Fails e (neg_of depth lexemes)
@@ -53,11 +58,11 @@ module _ (depth : ℕ) (lexemes : List Lexeme) (some : depth ≡ 0 → ⊥) wher
 
   module _ (stayed : List Lexeme) (no_not : after (Word (codes "not")) lexemes ≡ None) (same : stayed ≡ lexemes) where
     -- without NOT
-    neg_of-open : (found : Option (List Lexeme)) → after (Sign symbol.Open) stayed ≡ found → neg_of depth lexemes ≡ open_behind (neg_of (depth - 1)) found lexemes
+    neg_of-open : (found : Option (List Lexeme)) → after (Sign symbol.Open) stayed ≡ found → neg_of depth lexemes ≡ either found (closed_of (or_of (neg_of (depth - 1)))) (plain_of lexemes)
     neg_of-open found a =
         neg_of-some depth lexemes some
-        ∙ ap (λ found. neg_behind (neg_of (depth - 1)) found lexemes) no_not
-        ∙ ap (λ found. open_behind (neg_of (depth - 1)) found lexemes) (ap (after (Sign symbol.Open)) (sym same) ∙ a)
+        ∙ ap (λ found. denied_or_open (depth - 1) found lexemes) no_not
+        ∙ ap (λ found. either found (closed_of (or_of (neg_of (depth - 1)))) (plain_of lexemes)) (ap (after (Sign symbol.Open)) (sym same) ∙ a)
 
     -- without a bracket there is a predicate
     pub neg_of-plain : after (Sign symbol.Open) stayed ≡ None → neg_of depth lexemes ≡ plain_of lexemes

@@ -3,7 +3,7 @@ use Rattle.std.proofs.Common.{◌≡◌, ℕ, Bool, true, false, Option, Some, N
 use Rattle.std.specs.Prelude.{codes}
 use Rattle.mt_lexer.specs.declared.token.Symbol.{Symbol}
 use Rattle.mt_lexer.specs.declared.token.Symbol.TheVariants as symbol
-use Rattle.mt_lexer.specs.Tokens.{Lexeme, Word, Number, Quoted, Sign}
+use Rattle.mt_lexer.specs.Tokens.{Lexeme, Word, Sign}
 use Rattle.mt_value.specs.declared.truth.Cmp.{Cmp}
 use Rattle.mt_value.specs.declared.truth.Cmp.TheVariants.{Eq, Ne, Lt, Le, Gt, Ge}
 use Rattle.mt_tree.specs.declared.expression.Atom.{Atom}
@@ -11,14 +11,16 @@ use Rattle.mt_reader.specs.Descent.{after, first_symbol, separated_of, bracketed
 use Rattle.mt_reader.specs.Forms.{Bracketed, Behind, Commas}
 use Rattle.mt_reader.specs.Fronts.{Begins}
 use Rattle.mt_reader.proofs.Bracketing.{items_in_brackets_sound, items_in_brackets_complete}
+use Rattle.mt_reader.proofs.Eithers.{either_some}
 use Rattle.mt_reader.proofs.Shrinking.{bind_some, same_tree, same_rest}
 use Rattle.mt_reader.proofs.Spelling.{IsSound, IsCompleteBefore, after_is}
 use Rattle.mt_terms.specs.declared.test.Test.{Test}
 use Rattle.mt_terms.specs.declared.test.Test.TheVariants as test
 use Rattle.mt_terms.specs.Condition.{comparison_symbol, SpellsNot, AtomThen, NotThen, WordThen}
 use Rattle.mt_terms.specs.Expression.{SpellsAtom}
-use Rattle.mt_terms.specs.Descent.{atom_of, cmp_of, compare_of, member_of, between_of, like_of, between_behind, in_behind, worded_of, null_of, not_null_behind, tested_of, not_behind, is_behind, compare_behind, test_of}
+use Rattle.mt_terms.specs.Descent.{atom_of, cmp_of, compare_of, member_of, between_of, like_of, worded_of, null_of, tested_of, said_of, compare_behind, test_of}
 use Rattle.mt_terms.proofs.Atoms.{NoDot, atom_sound, atom_complete, atom_shrinks}
+use Rattle.mt_terms.proofs.Tails.{first_symbol_is}
 
 -- what stands behind the first atom of a predicate
 abbrev pub SpellsTest : List Lexeme → Test → Type 0
@@ -55,14 +57,6 @@ cmp_of-comparison_symbol Lt = refl
 cmp_of-comparison_symbol Le = refl
 cmp_of-comparison_symbol Gt = refl
 cmp_of-comparison_symbol Ge = refl
-
--- the symbol that comes first stands first
-first_symbol_is : (lexemes : List Lexeme) (s : Symbol) → first_symbol lexemes ≡ Some s → lexemes ≡ Sign s ∷ drop 1 lexemes
-first_symbol_is [] s e = cc
-first_symbol_is (Word name ∷ rest) s e = cc
-first_symbol_is (Number value ∷ rest) s e = cc
-first_symbol_is (Quoted text ∷ rest) s e = cc
-first_symbol_is (Sign sign ∷ rest) s e = let same : sign ≡ s = cc in ap (λ t. Sign t ∷ rest) same
 
 -- a comparison is one lexeme
 compare_is : (lexemes rest : List Lexeme) (op : Cmp) → compare_of lexemes ≡ Some (op, rest) → lexemes ≡ Sign (comparison_symbol op) ∷ rest
@@ -167,16 +161,13 @@ like_sound negated lexemes left rest t h e =
 -- IN, BETWEEN or LIKE
 worded_sound : (negated : Bool) (lexemes left rest : List Lexeme) (t : Test) → lexemes ≡ not_front negated ++ left → worded_of negated left ≡ Some (t, rest) → Begins SpellsTest lexemes rest t
 unfolding worded_of
-worded_sound negated lexemes left rest t h e = by_in (after (Word (codes "in")) left) refl e where
-  by_between : (found : Option (List Lexeme)) → after (Word (codes "between")) left ≡ found → between_behind negated found left ≡ Some (t, rest) → Begins SpellsTest lexemes rest t
-  by_between (Some mid) a e = between_sound negated lexemes mid rest t (h ∙ ap (λ ls. not_front negated ++ ls) (after_is _ left mid a)) e
-  by_between None a e =
-      let b = bind_some (after (Word (codes "like")) left) _ (t, rest) e in
-      like_sound negated lexemes b.0 rest t (h ∙ ap (λ ls. not_front negated ++ ls) (after_is _ left b.0 b.1)) b.2
-
-  by_in : (found : Option (List Lexeme)) → after (Word (codes "in")) left ≡ found → in_behind negated found left ≡ Some (t, rest) → Begins SpellsTest lexemes rest t
-  by_in (Some mid) a e = member_sound negated lexemes mid rest t (h ∙ ap (λ ls. not_front negated ++ ls) (after_is _ left mid a)) e
-  by_in None a e = by_between (after (Word (codes "between")) left) refl e
+worded_sound negated lexemes left rest t h e =
+    either_some (after (Word (codes "in")) left) (member_of negated) _ (t, rest) (λ mid a e. member_sound negated lexemes mid rest t (behind (codes "in") mid a) e)
+    (λ e. either_some (after (Word (codes "between")) left) (between_of negated) _ (t, rest) (λ mid a e. between_sound negated lexemes mid rest t (behind (codes "between") mid a) e)
+    (λ e. let b = bind_some (after (Word (codes "like")) left) _ (t, rest) e in like_sound negated lexemes b.0 rest t (behind (codes "like") b.0 b.1) b.2) e) e
+  where
+    behind : (word : List ℕ) (mid : List Lexeme) → after (Word word) left ≡ Some mid → lexemes ≡ not_front negated ++ Word word ∷ mid
+    behind word mid a = h ∙ ap (λ ls. not_front negated ++ ls) (after_is _ left mid a)
 
 -- the NULL of a test
 null_sound : (negated : Bool) (lexemes left rest : List Lexeme) (t : Test) → lexemes ≡ Word (codes "is") ∷ (not_front negated ++ left) → null_of negated left ≡ Some (t, rest) → Begins SpellsTest lexemes rest t
@@ -199,23 +190,25 @@ null_sound negated lexemes left rest t h e =
 -- behind IS
 tested_sound : (lexemes left rest : List Lexeme) (t : Test) → lexemes ≡ Word (codes "is") ∷ left → tested_of left ≡ Some (t, rest) → Begins SpellsTest lexemes rest t
 unfolding tested_of not_front
-tested_sound lexemes left rest t h e = by_not (after (Word (codes "not")) left) refl e where
-  by_not : (found : Option (List Lexeme)) → after (Word (codes "not")) left ≡ found → not_null_behind found left ≡ Some (t, rest) → Begins SpellsTest lexemes rest t
-  by_not (Some mid) a e = null_sound true lexemes mid rest t (h ∙ ap (λ ls. Word (codes "is") ∷ ls) (after_is _ left mid a)) e
-  by_not None a e = null_sound false lexemes left rest t h e
+tested_sound lexemes left rest t h e =
+    either_some (after (Word (codes "not")) left) (null_of true) (null_of false left) (t, rest)
+    (λ mid a e. null_sound true lexemes mid rest t (h ∙ ap (λ ls. Word (codes "is") ∷ ls) (after_is _ left mid a)) e)
+    (λ e. null_sound false lexemes left rest t h e)
+    e
+
+-- what begins with a word
+said_sound : IsSound SpellsTest said_of
+unfolding said_of not_front
+said_sound lexemes rest t e =
+    either_some (after (Word (codes "is")) lexemes) tested_of _ (t, rest) (λ left a e. tested_sound lexemes left rest t (after_is _ lexemes left a) e)
+    (λ e. either_some (after (Word (codes "not")) lexemes) (worded_of true) (worded_of false lexemes) (t, rest)
+    (λ left a e. worded_sound true lexemes left rest t (after_is _ lexemes left a) e)
+    (λ e. worded_sound false lexemes lexemes rest t refl e) e) e
 
 -- what is read is what a predicate says
 pub test_sound : IsSound SpellsTest test_of
-unfolding test_of not_front
+unfolding test_of
 test_sound lexemes rest t e = by_compare (compare_of lexemes) refl e where
-  by_not : (found : Option (List Lexeme)) → after (Word (codes "not")) lexemes ≡ found → not_behind found lexemes ≡ Some (t, rest) → Begins SpellsTest lexemes rest t
-  by_not (Some left) a e = worded_sound true lexemes left rest t (after_is _ lexemes left a) e
-  by_not None a e = worded_sound false lexemes lexemes rest t refl e
-
-  by_is : (found : Option (List Lexeme)) → after (Word (codes "is")) lexemes ≡ found → is_behind found lexemes ≡ Some (t, rest) → Begins SpellsTest lexemes rest t
-  by_is (Some left) a e = tested_sound lexemes left rest t (after_is _ lexemes left a) e
-  by_is None a e = by_not (after (Word (codes "not")) lexemes) refl e
-
   by_compare : (sign : Option (Cmp × List Lexeme)) → compare_of lexemes ≡ sign → compare_behind sign lexemes ≡ Some (t, rest) → Begins SpellsTest lexemes rest t
   by_compare (Some sign) a e =
       let b = bind_some (atom_of sign.1) _ (t, rest) e in
@@ -226,13 +219,13 @@ test_sound lexemes rest t e = by_compare (compare_of lexemes) refl e where
         whole = compare_is lexemes sign.1 sign.0 a ∙ ap (λ ls. Sign (comparison_symbol sign.0) ∷ ls) (s.whole ∙ ap (λ ls. s.front ++ ls) (same_rest b.2));
         spelled = subst (SpellsTest front) (same_tree b.2) (record { inner = s.front; prefix = refl; body = s.spelled });
       }
-  by_compare None a e = by_is (after (Word (codes "is")) lexemes) refl e
+  by_compare None a e = said_sound lexemes rest t e
 
 -- what is spelled so is read
 
 -- words behind NOT, or without, are read by their first
 not_test : (rest : List Lexeme) → test_of (Word (codes "not") ∷ rest) ≡ worded_of true rest
-unfolding test_of compare_of after
+unfolding test_of compare_of said_of after
 not_test rest = refl
 
 -- behind NOT, if there is one, a word is read
@@ -242,15 +235,15 @@ flagged_test word plain false front rest s = ap (λ ls. test_of (ls ++ Word word
 
 -- the three words
 in_test : (negated : Bool) (front rest : List Lexeme) → SpellsNot front negated → test_of (front ++ Word (codes "in") ∷ rest) ≡ member_of negated rest
-unfolding test_of compare_of worded_of after
+unfolding test_of compare_of said_of worded_of after
 in_test negated front rest s = flagged_test (codes "in") (λ rest. refl) negated front rest s
 
 between_test : (negated : Bool) (front rest : List Lexeme) → SpellsNot front negated → test_of (front ++ Word (codes "between") ∷ rest) ≡ between_of negated rest
-unfolding test_of compare_of worded_of after
+unfolding test_of compare_of said_of worded_of after
 between_test negated front rest s = flagged_test (codes "between") (λ rest. refl) negated front rest s
 
 like_test : (negated : Bool) (front rest : List Lexeme) → SpellsNot front negated → test_of (front ++ Word (codes "like") ∷ rest) ≡ like_of negated rest
-unfolding test_of compare_of worded_of after
+unfolding test_of compare_of said_of worded_of after
 like_test negated front rest s = flagged_test (codes "like") (λ rest. refl) negated front rest s
 
 -- a comparison is read as a test
@@ -279,7 +272,7 @@ like_complete negated front more pattern end s = rw (atom_complete front more pa
 
 -- NULL is read, with NOT or without
 null_complete : (negated : Bool) (front more : List Lexeme) → SpellsNot front negated → test_of (Word (codes "is") ∷ (front ++ Word (codes "null") ∷ more)) ≡ Some (test.IsNull negated, more)
-unfolding test_of compare_of tested_of after
+unfolding test_of compare_of said_of tested_of after
 null_complete true front more s = rw s refl
 null_complete false front more s = rw s refl
 

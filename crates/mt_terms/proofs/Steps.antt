@@ -7,11 +7,11 @@ use Rattle.mt_tree.specs.declared.expression.Expr.{Expr}
 use Rattle.mt_tree.specs.declared.expression.Expr.TheVariants as expr
 use Rattle.mt_tree.specs.declared.expression.Term.{Term}
 use Rattle.mt_reader.specs.declared.fault.ReadFault.{ReadFault}
-use Rattle.mt_reader.specs.Descent.{after, with_front}
+use Rattle.mt_reader.specs.Descent.{after, either, closed_of, with_front}
 use Rattle.mt_reader.specs.Taken.{Took, Fails}
 use Rattle.mt_reader.proofs.Joining.{is_none}
 use Rattle.mt_reader.proofs.Literals.{fails_bind}
-use Rattle.mt_terms.specs.Descent.{alone_of, term_of, sign_of, tail_of, terms_of, sum_tree, sum_of, factor_behind, factor_of}
+use Rattle.mt_terms.specs.Descent.{alone_of, term_of, sign_of, tail_of, terms_of, sum_tree, sum_of, factor_of}
 use Rattle.mt_terms.specs.Inside.{IsExprInside, IsTermInside}
 use Rattle.mt_terms.proofs.Inside.{keeps_sum}
 use Rattle.mt_terms.proofs.Tails.{TermsSoFar, tail_of-end, terms_so_far_all}
@@ -66,18 +66,18 @@ factor_of-none zero lexemes h = refl
 factor_of-none (suc depth) lexemes h = absurd (omega arith)
 
 -- a bracket takes one of the depth
-pub factor_of-some : (depth : ℕ) (lexemes : List Lexeme) → 0 < depth → factor_of depth lexemes ≡ factor_behind (sum_of (factor_of (depth - 1))) (after (Sign symbol.Open) lexemes) lexemes
+pub factor_of-some : (depth : ℕ) (lexemes : List Lexeme) → 0 < depth → factor_of depth lexemes ≡ either (after (Sign symbol.Open) lexemes) (closed_of (sum_of (factor_of (depth - 1)))) (alone_of lexemes)
 unfolding factor_of
 factor_of-some zero lexemes h = absurd (omega arith)
-factor_of-some (suc depth) lexemes h = let same : depth ≡ suc depth - 1 = omega arith in ap (λ d. factor_behind (sum_of (factor_of d)) (after (Sign symbol.Open) lexemes) lexemes) same
+factor_of-some (suc depth) lexemes h = let same : depth ≡ suc depth - 1 = omega arith in ap (λ d. either (after (Sign symbol.Open) lexemes) (closed_of (sum_of (factor_of d))) (alone_of lexemes)) same
 
 -- where no bracket opens a factor is an atom
 pub factor_of-atom : (depth : ℕ) (lexemes : List Lexeme) → (depth ≡ 0 → ⊥) → after (Sign symbol.Open) lexemes ≡ None → factor_of depth lexemes ≡ alone_of lexemes
-factor_of-atom depth lexemes h a = factor_of-some depth lexemes (omega arith) ∙ ap (λ found. factor_behind (sum_of (factor_of (depth - 1))) found lexemes) a
+factor_of-atom depth lexemes h a = factor_of-some depth lexemes (omega arith) ∙ ap (λ found. either found (closed_of (sum_of (factor_of (depth - 1)))) (alone_of lexemes)) a
 
 -- where a bracket opens a factor is a sum in brackets
 factor_of-open : (depth : ℕ) (lexemes mid : List Lexeme) → (depth ≡ 0 → ⊥) → after (Sign symbol.Open) lexemes ≡ Some mid → factor_of depth lexemes ≡ option_and_then bracket_behind (sum_of (factor_of (depth - 1)) mid)
-factor_of-open depth lexemes mid h a = factor_of-some depth lexemes (omega arith) ∙ ap (λ found. factor_behind (sum_of (factor_of (depth - 1))) found lexemes) a
+factor_of-open depth lexemes mid h a = factor_of-some depth lexemes (omega arith) ∙ ap (λ found. either found (closed_of (sum_of (factor_of (depth - 1)))) (alone_of lexemes)) a
 
 -- why the sum in brackets fails
 pub factor_inner_fails : (depth : ℕ) (lexemes mid : List Lexeme) (e : ReadFault) → (depth ≡ 0 → ⊥) → after (Sign symbol.Open) lexemes ≡ Some mid → Fails e (sum_of (factor_of (depth - 1)) mid) → Fails e (factor_of depth lexemes)

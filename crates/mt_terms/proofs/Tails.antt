@@ -1,22 +1,22 @@
 -- The members of a sum, as far as a loop has read.
-use Rattle.std.proofs.Common.{◌≡◌, ℕ, zero, suc, ◌<◌, ◌≤◌, Bool, true, false, Option, Some, None, List, [], ◌∷◌, ◌++◌, length, length-append, refl, sym, ap, ◌∙◌, append-nil, arith}
+use Rattle.std.proofs.Common.{◌≡◌, ℕ, zero, suc, ◌<◌, ◌≤◌, Bool, true, false, Option, Some, None, List, [], ◌∷◌, ◌++◌, length, length-append, drop, refl, sym, ap, ◌∙◌, append-nil, arith}
 use Rattle.std.proofs.lemmas.List.Elements.{All-nil}
 use Rattle.std.specs.List.{All}
 use Rattle.std.specs.Option.{is_some, option_and_then}
+use Rattle.mt_lexer.specs.declared.token.Symbol.{Symbol}
 use Rattle.mt_lexer.specs.declared.token.Symbol.TheVariants as symbol
-use Rattle.mt_lexer.specs.Tokens.{Lexeme, Sign}
+use Rattle.mt_lexer.specs.Tokens.{Lexeme, Word, Number, Quoted, Sign}
 use Rattle.mt_tree.specs.declared.expression.Expr.{Expr}
 use Rattle.mt_tree.specs.declared.expression.Term.{Term}
 use Rattle.mt_reader.specs.declared.fault.ReadFault.{ReadFault}
 use Rattle.mt_reader.specs.declared.fault.ReadFault.TheVariants as fault
-use Rattle.mt_reader.specs.Descent.{after, with_front, pushed}
+use Rattle.mt_reader.specs.Descent.{first_symbol, with_front, pushed}
 use Rattle.mt_reader.specs.Taken.{Keeps, Fails}
-use Rattle.mt_reader.proofs.Shrinking.{same_tree, same_rest}
+use Rattle.mt_reader.proofs.Shrinking.{bind_some, same_tree, same_rest}
 use Rattle.mt_reader.proofs.Lists.{keeps_pushed, with_front-append}
 use Rattle.mt_reader.proofs.Literals.{fails_bind}
-use Rattle.mt_reader.proofs.Spelling.{after_is}
 use Rattle.mt_terms.specs.Expression.{sign_of as sign_lexeme}
-use Rattle.mt_terms.specs.Descent.{sign_of, sign_behind, tail_of, tail_behind, terms_of}
+use Rattle.mt_terms.specs.Descent.{minus_of, sign_of, tail_of, tail_behind, terms_of}
 
 -- The members so far, one at least, and those behind each sign to come are all; this is kept of those
 -- so far, and where no sign comes they are two or more.
@@ -29,14 +29,41 @@ pub record TermsSoFar (term : List Lexeme → Option (Expr × List Lexeme)) (ins
   pub some : 0 < length front
   pub many : is_some (sign_of left) ≡ false → 2 ≤ length front
 
+-- a symbol that is a sign is the one that it says
+minus_is : (s : Symbol) (minus : Bool) → minus_of s ≡ Some minus → Sign s ≡ sign_lexeme minus
+minus_is symbol.Plus minus e = let same : false ≡ minus = cc in ap sign_lexeme same
+minus_is symbol.Minus minus e = let same : true ≡ minus = cc in ap sign_lexeme same
+minus_is symbol.Equal minus e = cc
+minus_is symbol.NotEqual minus e = cc
+minus_is symbol.Less minus e = cc
+minus_is symbol.LessEqual minus e = cc
+minus_is symbol.Greater minus e = cc
+minus_is symbol.GreaterEqual minus e = cc
+minus_is symbol.Open minus e = cc
+minus_is symbol.Close minus e = cc
+minus_is symbol.Comma minus e = cc
+minus_is symbol.Dot minus e = cc
+minus_is symbol.Star minus e = cc
+minus_is symbol.Semicolon minus e = cc
+
+-- the symbol that comes first stands first
+pub first_symbol_is : (lexemes : List Lexeme) (s : Symbol) → first_symbol lexemes ≡ Some s → lexemes ≡ Sign s ∷ drop 1 lexemes
+first_symbol_is [] s e = cc
+first_symbol_is (Word name ∷ rest) s e = cc
+first_symbol_is (Number value ∷ rest) s e = cc
+first_symbol_is (Quoted text ∷ rest) s e = cc
+first_symbol_is (Sign sign ∷ rest) s e = let same : sign ≡ s = cc in ap (λ t. Sign t ∷ rest) same
+
 -- a sign is one lexeme
 pub sign_is : (lexemes rest : List Lexeme) (minus : Bool) → sign_of lexemes ≡ Some (minus, rest) → lexemes ≡ sign_lexeme minus ∷ rest
 unfolding sign_of
-sign_is lexemes rest minus e = by_sign (after (Sign symbol.Plus) lexemes) (after (Sign symbol.Minus) lexemes) refl refl e where
-  by_sign : (plus less : Option (List Lexeme)) → after (Sign symbol.Plus) lexemes ≡ plus → after (Sign symbol.Minus) lexemes ≡ less → sign_behind plus less ≡ Some (minus, rest) → lexemes ≡ sign_lexeme minus ∷ rest
-  by_sign (Some left) less a b e = after_is _ lexemes left a ∙ ap (λ ls. Sign symbol.Plus ∷ ls) (same_rest e) ∙ ap (λ m. sign_lexeme m ∷ rest) (same_tree e)
-  by_sign None (Some left) a b e = after_is _ lexemes left b ∙ ap (λ ls. Sign symbol.Minus ∷ ls) (same_rest e) ∙ ap (λ m. sign_lexeme m ∷ rest) (same_tree e)
-  by_sign None None a b e = cc
+sign_is lexemes rest minus e =
+    let a = bind_some (first_symbol lexemes) _ (minus, rest) e in
+    let b = bind_some (minus_of a.0) _ (minus, rest) a.2 in
+    first_symbol_is lexemes a.0 a.1
+    ∙ ap (λ first. first ∷ drop 1 lexemes) (minus_is a.0 b.0 b.1)
+    ∙ ap (λ m. sign_lexeme m ∷ drop 1 lexemes) (same_tree b.2)
+    ∙ ap (λ ls. sign_lexeme minus ∷ ls) (same_rest b.2)
 
 module _ (term : List Lexeme → Option (Expr × List Lexeme)) where
   -- one more member, where there is fuel

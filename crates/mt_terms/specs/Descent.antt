@@ -1,12 +1,11 @@
 -- The forms as functions, which read lexemes from the left: the tree, and the lexemes behind it.
-use Rattle.std.specs.Prelude.{ℕ, zero, suc, Bool, true, false, if◌then◌else◌, Option, Some, None, List, [], ◌∷◌, length, drop, codes}
+use Rattle.std.specs.Prelude.{ℕ, zero, suc, Bool, true, false, if◌then◌else◌, Option, Some, None, is_some, List, [], ◌∷◌, length, drop, codes}
 use Rattle.mt_lexer.specs.declared.token.Symbol.{Symbol}
 use Rattle.mt_lexer.specs.declared.token.Symbol.TheVariants as symbol
 use Rattle.mt_value.specs.declared.truth.Cmp.{Cmp}
 use Rattle.mt_value.specs.declared.truth.Cmp.TheVariants.{Eq, Ne, Lt, Le, Gt, Ge}
 use Rattle.mt_lexer.specs.Tokens.{Lexeme, Word, Sign}
 use Rattle.mt_tree.specs.declared.name.ColName.{ColName}
-use Rattle.mt_tree.specs.declared.expression.Literal.TheVariants.{Null}
 use Rattle.mt_tree.specs.declared.expression.Agg.{Agg}
 use Rattle.mt_tree.specs.declared.expression.Agg.TheVariants as agg
 use Rattle.mt_tree.specs.declared.expression.Atom.{Atom}
@@ -16,22 +15,21 @@ use Rattle.mt_tree.specs.declared.expression.Expr.TheVariants as expr
 use Rattle.mt_tree.specs.declared.expression.Term.{Term}
 use Rattle.mt_tree.specs.declared.expression.Cond.{Cond}
 use Rattle.mt_tree.specs.declared.expression.Cond.TheVariants as cond
-use Rattle.mt_reader.specs.Descent.{◌>>=◌, after, name_of, literal_of, begins_with_name, begins_with_word, first_symbol, with_front, separated_of, joined_of, closed_of, bracketed_of}
+use Rattle.mt_reader.specs.Descent.{◌>>=◌, after, name_of, literal_of, begins_with_name, begins_with_word, first_symbol, with_front, either, separated_of, joined_of, closed_of, bracketed_of}
 use Rattle.mt_terms.specs.declared.test.Test.{Test}
 use Rattle.mt_terms.specs.declared.test.Test.TheVariants as test
 
--- behind a name: a dot and a name, or nothing
-abbrev pub column_behind : List ℕ → Option (List Lexeme) → List Lexeme → Option (ColName × List Lexeme)
-column_behind name None lexemes = Some (record { qualifier = None; name = name }, lexemes)
-column_behind name (Some rest) lexemes = do
-  second ← name_of rest
-  Some (record { qualifier = Some name; name = second.0 }, second.1)
+-- behind a name and a dot, a name
+abbrev pub dotted_of : List ℕ → List Lexeme → Option (ColName × List Lexeme)
+dotted_of qualifier lexemes = do
+  name ← name_of lexemes
+  Some (record { qualifier = Some qualifier; name = name.0 }, name.1)
 
 -- a name, or two with a dot between
 unfoldable pub column_of : List Lexeme → Option (ColName × List Lexeme)
 column_of lexemes = do
   name ← name_of lexemes
-  column_behind name.0 (after (Sign symbol.Dot) name.1) name.1
+  either (after (Sign symbol.Dot) name.1) (dotted_of name.0) (Some (record { qualifier = None; name = name.0 }, name.1))
 
 -- behind the word of a function
 abbrev pub called_of : (ColName → Agg) → List Lexeme → Option (Agg × List Lexeme)
@@ -39,12 +37,15 @@ called_of function lexemes = do
   column ← bracketed_of column_of lexemes
   Some (function column.0, column.1)
 
--- behind COUNT and a bracket: the star, or a column
-abbrev pub counted_behind : Option (List Lexeme) → List Lexeme → Option (Agg × List Lexeme)
-counted_behind (Some star) lexemes = do
-  rest ← after (Sign symbol.Close) star
+-- behind COUNT, a bracket and the star
+abbrev pub all_counted_of : List Lexeme → Option (Agg × List Lexeme)
+all_counted_of lexemes = do
+  rest ← after (Sign symbol.Close) lexemes
   Some (agg.CountAll, rest)
-counted_behind None lexemes = do
+
+-- behind COUNT and a bracket, a column
+abbrev pub column_counted_of : List Lexeme → Option (Agg × List Lexeme)
+column_counted_of lexemes = do
   column ← closed_of column_of lexemes
   Some (agg.Count column.0, column.1)
 
@@ -52,39 +53,21 @@ counted_behind None lexemes = do
 unfoldable pub counted_of : List Lexeme → Option (Agg × List Lexeme)
 counted_of lexemes = do
   open_ ← after (Sign symbol.Open) lexemes
-  counted_behind (after (Sign symbol.Star) open_) open_
+  either (after (Sign symbol.Star) open_) all_counted_of (column_counted_of open_)
 
--- where there is no MIN, a MAX
-abbrev pub min_behind : Option (List Lexeme) → List Lexeme → Option (Agg × List Lexeme)
-min_behind (Some rest) lexemes = called_of agg.Min rest
-min_behind None lexemes = do
+-- where no other comes, a MAX
+abbrev pub max_of : List Lexeme → Option (Agg × List Lexeme)
+max_of lexemes = do
   rest ← after (Word (codes "max")) lexemes
   called_of agg.Max rest
 
--- where there is no SUM, a MIN or a MAX
-abbrev pub sum_behind : Option (List Lexeme) → List Lexeme → Option (Agg × List Lexeme)
-sum_behind (Some rest) lexemes = called_of agg.Sum rest
-sum_behind None lexemes = min_behind (after (Word (codes "min")) lexemes) lexemes
-
--- where there is no COUNT, one of the others
-abbrev pub count_behind : Option (List Lexeme) → List Lexeme → Option (Agg × List Lexeme)
-count_behind (Some rest) lexemes = counted_of rest
-count_behind None lexemes = sum_behind (after (Word (codes "sum")) lexemes) lexemes
-
 -- an aggregate
 unfoldable pub agg_of : List Lexeme → Option (Agg × List Lexeme)
-agg_of lexemes = count_behind (after (Word (codes "count")) lexemes) lexemes
-
--- where there is no NULL, an aggregate
-abbrev pub null_behind : Option (List Lexeme) → List Lexeme → Option (Atom × List Lexeme)
-null_behind (Some rest) lexemes = Some (atom.Literal Null, rest)
-null_behind None lexemes = do
-  found ← agg_of lexemes
-  Some (atom.Agg found.0, found.1)
-
--- what a reserved word begins
-unfoldable pub reserved_atom_of : List Lexeme → Option (Atom × List Lexeme)
-reserved_atom_of lexemes = null_behind (after (Word (codes "null")) lexemes) lexemes
+agg_of lexemes =
+    either (after (Word (codes "count")) lexemes) counted_of
+    (either (after (Word (codes "sum")) lexemes) (called_of agg.Sum)
+    (either (after (Word (codes "min")) lexemes) (called_of agg.Min)
+    (max_of lexemes)))
 
 -- what a name begins
 unfoldable pub column_atom_of : List Lexeme → Option (Atom × List Lexeme)
@@ -92,11 +75,21 @@ column_atom_of lexemes = do
   column ← column_of lexemes
   Some (atom.Column column.0, column.1)
 
--- what begins with no word
+-- a literal
 unfoldable pub literal_atom_of : List Lexeme → Option (Atom × List Lexeme)
 literal_atom_of lexemes = do
   literal ← literal_of lexemes
   Some (atom.Literal literal.0, literal.1)
+
+-- an aggregate, as an atom
+abbrev pub agg_atom_of : List Lexeme → Option (Atom × List Lexeme)
+agg_atom_of lexemes = do
+  found ← agg_of lexemes
+  Some (atom.Agg found.0, found.1)
+
+-- what a reserved word begins: NULL, or an aggregate
+unfoldable pub reserved_atom_of : List Lexeme → Option (Atom × List Lexeme)
+reserved_atom_of lexemes = if is_some (after (Word (codes "null")) lexemes) then literal_atom_of lexemes else agg_atom_of lexemes
 
 -- an atom, by its first lexeme
 unfoldable pub atom_of : List Lexeme → Option (Atom × List Lexeme)
@@ -114,15 +107,18 @@ alone_of lexemes = do
 unfoldable pub term_of : (List Lexeme → Option (Expr × List Lexeme)) → List Lexeme → Option (Expr × List Lexeme)
 term_of factor lexemes = joined_of factor (Sign symbol.Star) expr.Product lexemes
 
--- the sign that comes first: whether it is a minus
-abbrev pub sign_behind : Option (List Lexeme) → Option (List Lexeme) → Option (Bool × List Lexeme)
-sign_behind (Some rest) minus = Some (false, rest)
-sign_behind None (Some rest) = Some (true, rest)
-sign_behind None None = None
+-- whether a symbol is the sign of a minus, or of a plus
+abbrev pub minus_of : Symbol → Option Bool
+minus_of symbol.Plus = Some false
+minus_of symbol.Minus = Some true
+minus_of other = None
 
 -- a plus or a minus; whether it is a minus
 unfoldable pub sign_of : List Lexeme → Option (Bool × List Lexeme)
-sign_of lexemes = sign_behind (after (Sign symbol.Plus) lexemes) (after (Sign symbol.Minus) lexemes)
+sign_of lexemes = do
+  sign ← first_symbol lexemes
+  minus ← minus_of sign
+  Some (minus, drop 1 lexemes)
 
 -- no more members where no sign comes
 abbrev pub tail_behind : (List Lexeme → Option (Expr × List Lexeme)) → (List Lexeme → Option (List Term × List Lexeme)) → Option (Bool × List Lexeme) → List Lexeme → Option (List Term × List Lexeme)
@@ -154,15 +150,10 @@ sum_of factor lexemes = do
   terms ← terms_of (term_of factor) lexemes
   Some (sum_tree terms.0, terms.1)
 
--- in brackets, where one opens
-abbrev pub factor_behind : (List Lexeme → Option (Expr × List Lexeme)) → Option (List Lexeme) → List Lexeme → Option (Expr × List Lexeme)
-factor_behind sum None lexemes = alone_of lexemes
-factor_behind sum (Some rest) lexemes = closed_of sum rest
-
 -- a factor, with so many brackets about one another at most
 unfoldable pub factor_of : ℕ → List Lexeme → Option (Expr × List Lexeme)
 factor_of zero lexemes = alone_of lexemes
-factor_of (suc depth) lexemes = factor_behind (sum_of (factor_of depth)) (after (Sign symbol.Open) lexemes) lexemes
+factor_of (suc depth) lexemes = either (after (Sign symbol.Open) lexemes) (closed_of (sum_of (factor_of depth))) (alone_of lexemes)
 
 -- an expression
 unfoldable pub expr_of : List Lexeme → Option (Expr × List Lexeme)
@@ -213,21 +204,18 @@ like_of negated lexemes = do
   pattern ← atom_of lexemes
   Some (test.Like negated pattern.0, pattern.1)
 
--- where there is no BETWEEN, a LIKE
-abbrev pub between_behind : Bool → Option (List Lexeme) → List Lexeme → Option (Test × List Lexeme)
-between_behind negated (Some rest) lexemes = between_of negated rest
-between_behind negated None lexemes = do
+-- where no other comes, a LIKE
+abbrev pub liked_of : Bool → List Lexeme → Option (Test × List Lexeme)
+liked_of negated lexemes = do
   rest ← after (Word (codes "like")) lexemes
   like_of negated rest
 
--- where there is no IN, a BETWEEN or a LIKE
-abbrev pub in_behind : Bool → Option (List Lexeme) → List Lexeme → Option (Test × List Lexeme)
-in_behind negated (Some rest) lexemes = member_of negated rest
-in_behind negated None lexemes = between_behind negated (after (Word (codes "between")) lexemes) lexemes
-
 -- IN, BETWEEN or LIKE
 unfoldable pub worded_of : Bool → List Lexeme → Option (Test × List Lexeme)
-worded_of negated lexemes = in_behind negated (after (Word (codes "in")) lexemes) lexemes
+worded_of negated lexemes =
+    either (after (Word (codes "in")) lexemes) (member_of negated)
+    (either (after (Word (codes "between")) lexemes) (between_of negated)
+    (liked_of negated lexemes))
 
 -- the NULL of a test
 abbrev pub null_of : Bool → List Lexeme → Option (Test × List Lexeme)
@@ -235,31 +223,23 @@ null_of negated lexemes = do
   rest ← after (Word (codes "null")) lexemes
   Some (test.IsNull negated, rest)
 
--- NOT NULL, or NULL
-abbrev pub not_null_behind : Option (List Lexeme) → List Lexeme → Option (Test × List Lexeme)
-not_null_behind (Some rest) lexemes = null_of true rest
-not_null_behind None lexemes = null_of false lexemes
-
--- behind IS
+-- behind IS, NULL or NOT NULL
 unfoldable pub tested_of : List Lexeme → Option (Test × List Lexeme)
-tested_of lexemes = not_null_behind (after (Word (codes "not")) lexemes) lexemes
+tested_of lexemes = either (after (Word (codes "not")) lexemes) (null_of true) (null_of false lexemes)
 
--- with NOT or without
-abbrev pub not_behind : Option (List Lexeme) → List Lexeme → Option (Test × List Lexeme)
-not_behind (Some rest) lexemes = worded_of true rest
-not_behind None lexemes = worded_of false lexemes
-
--- where there is no IS, one of the others
-abbrev pub is_behind : Option (List Lexeme) → List Lexeme → Option (Test × List Lexeme)
-is_behind (Some rest) lexemes = tested_of rest
-is_behind None lexemes = not_behind (after (Word (codes "not")) lexemes) lexemes
+-- what begins with a word
+unfoldable pub said_of : List Lexeme → Option (Test × List Lexeme)
+said_of lexemes =
+    either (after (Word (codes "is")) lexemes) tested_of
+    (either (after (Word (codes "not")) lexemes) (worded_of true)
+    (worded_of false lexemes))
 
 -- where there is no comparison, one of the others
 abbrev pub compare_behind : Option (Cmp × List Lexeme) → List Lexeme → Option (Test × List Lexeme)
 compare_behind (Some sign) lexemes = do
   right ← atom_of sign.1
   Some (test.Compare sign.0 right.0, right.1)
-compare_behind None lexemes = is_behind (after (Word (codes "is")) lexemes) lexemes
+compare_behind None lexemes = said_of lexemes
 
 -- what stands behind the first atom of a predicate
 unfoldable pub test_of : List Lexeme → Option (Test × List Lexeme)
@@ -290,22 +270,19 @@ and_of neg lexemes = joined_of neg (Word (codes "and")) cond.And lexemes
 unfoldable pub or_of : (List Lexeme → Option (Cond × List Lexeme)) → List Lexeme → Option (Cond × List Lexeme)
 or_of neg lexemes = joined_of (and_of neg) (Word (codes "or")) cond.Or lexemes
 
--- in brackets, where one opens
-abbrev pub open_behind : (List Lexeme → Option (Cond × List Lexeme)) → Option (List Lexeme) → List Lexeme → Option (Cond × List Lexeme)
-open_behind neg None lexemes = plain_of lexemes
-open_behind neg (Some rest) lexemes = closed_of (or_of neg) rest
-
--- behind NOT, where one stands
-abbrev pub neg_behind : (List Lexeme → Option (Cond × List Lexeme)) → Option (List Lexeme) → List Lexeme → Option (Cond × List Lexeme)
-neg_behind neg None lexemes = open_behind neg (after (Sign symbol.Open) lexemes) lexemes
-neg_behind neg (Some rest) lexemes = do
-  inner ← neg rest
+-- behind NOT
+abbrev pub denied_of : (List Lexeme → Option (Cond × List Lexeme)) → List Lexeme → Option (Cond × List Lexeme)
+denied_of neg lexemes = do
+  inner ← neg lexemes
   Some (cond.Not inner.0, inner.1)
 
 -- a predicate, a NOT or brackets, with so many of those about one another at most
 unfoldable pub neg_of : ℕ → List Lexeme → Option (Cond × List Lexeme)
 neg_of zero lexemes = plain_of lexemes
-neg_of (suc depth) lexemes = neg_behind (neg_of depth) (after (Word (codes "not")) lexemes) lexemes
+neg_of (suc depth) lexemes =
+    either (after (Word (codes "not")) lexemes) (denied_of (neg_of depth))
+    (either (after (Sign symbol.Open) lexemes) (closed_of (or_of (neg_of depth)))
+    (plain_of lexemes))
 
 -- a condition
 unfoldable pub cond_of : List Lexeme → Option (Cond × List Lexeme)

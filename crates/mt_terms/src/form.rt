@@ -24,7 +24,7 @@ impl Production for ColumnForm {
 }
 
 /// An atom, as an item of a list.
-pub enum AtomForm {}
+pub(crate) enum AtomForm {}
 
 impl Production for AtomForm {
     ghost use Rattle.mt_terms.specs.Descent.{atom_of};

@@ -8,7 +8,7 @@ use mt_reader::{ReadFault, Reader};
 use mt_tree::Agg;
 use std::alloc::Global;
 
-/// TakesExactly an aggregate.
+/// Takes an aggregate.
 #[tactic(auto, unfolding(crate::specs::Descent::agg_of))]
 pub(crate) fn aggregate(alloc: Global, reader: &mut Reader<'_>) -> Result<Agg, ReadFault>
     ensures { TakesExactly result (λ agg. (agg, reader.new)) (agg_of reader.old) }
@@ -26,7 +26,7 @@ pub(crate) fn aggregate(alloc: Global, reader: &mut Reader<'_>) -> Result<Agg, R
     Ok(Agg::Max(argument(alloc, reader)?))
 }
 
-/// TakesExactly what stands behind COUNT: the star or a column, in brackets.
+/// Takes what stands behind COUNT: the star or a column, in brackets.
 #[tactic(auto, unfolding(crate::specs::Descent::counted_of))]
 fn counted(alloc: Global, reader: &mut Reader<'_>) -> Result<Agg, ReadFault>
     ensures { TakesExactly result (λ agg. (agg, reader.new)) (counted_of reader.old) }

@@ -6,10 +6,10 @@ ghost use Rattle.mt_terms.specs.Inside.{IsAtomInside};
 use crate::function::aggregate;
 use crate::name::column;
 use mt_reader::{LiteralForm, Production, ReadFault, Reader};
-use mt_tree::{Atom, Literal};
+use mt_tree::Atom;
 use std::alloc::Global;
 
-/// TakesExactly an atom; `None` is for a number outside 64 bits, here and below.
+/// Takes an atom; `None` is for a number outside 64 bits, here and below.
 #[tactic(auto, unfolding(crate::specs::Descent::atom_of))]
 pub(crate) fn atom(alloc: Global, reader: &mut Reader<'_>) -> Result<Option<Atom>, ReadFault>
     ensures { TakesInside IsAtomInside result reader.new (atom_of reader.old) }
@@ -23,7 +23,7 @@ pub(crate) fn atom(alloc: Global, reader: &mut Reader<'_>) -> Result<Option<Atom
     literal_atom(alloc, reader)
 }
 
-/// TakesExactly a column.
+/// Takes a column.
 #[tactic(auto, unfolding(crate::specs::Descent::column_atom_of))]
 fn column_atom(alloc: Global, reader: &mut Reader<'_>) -> Result<Option<Atom>, ReadFault>
     ensures { TakesInside IsAtomInside result reader.new (column_atom_of reader.old) }
@@ -32,19 +32,19 @@ fn column_atom(alloc: Global, reader: &mut Reader<'_>) -> Result<Option<Atom>, R
     Ok(Some(Atom::Column(column)))
 }
 
-/// TakesExactly NULL or an aggregate.
+/// Takes NULL or an aggregate.
 #[tactic(auto, unfolding(crate::specs::Descent::reserved_atom_of))]
 fn reserved_atom(alloc: Global, reader: &mut Reader<'_>) -> Result<Option<Atom>, ReadFault>
     ensures { TakesInside IsAtomInside result reader.new (reserved_atom_of reader.old) }
 {
-    if reader.takes_word(b"null") {
-        return Ok(Some(Atom::Literal(Literal::Null)));
+    if reader.is_at(b"null") {
+        return literal_atom(alloc, reader);
     }
     let found = aggregate(alloc, reader)?;
     Ok(Some(Atom::Agg(found)))
 }
 
-/// TakesExactly a number or a text.
+/// Takes a literal.
 #[tactic(auto, unfolding(crate::specs::Descent::literal_atom_of))]
 fn literal_atom(alloc: Global, reader: &mut Reader<'_>) -> Result<Option<Atom>, ReadFault>
     ensures { TakesInside IsAtomInside result reader.new (literal_atom_of reader.old) }

@@ -1,7 +1,7 @@
 //! Expressions and conditions: their grammar as a relation between tokens and trees, and the readers
-//! of them. It promises that a front of the tokens is read exactly where it spells an expression or
-//! a condition, as its one tree; brackets and NOT nest 64 deep at most, and a long list never deepens
-//! the stack.
+//! of them. They promise one front of all those that spell one with nothing behind them that goes on
+//! with it: there is one such front at most, and it is read, as its one tree. So `a .` may stay unread,
+//! though `a` is an expression. Brackets and NOT nest 64 deep at most.
 #![tactic(auto)]
 
 mod form;
@@ -15,9 +15,9 @@ mod read;
 mod sum;
 mod test;
 
-pub use form::{AtomForm, ColumnForm, ConditionForm, ExpressionForm};
+pub use form::{ColumnForm, ConditionForm, ExpressionForm};
 pub use laws::terms_are_determined;
-pub use read::{read_aggregate, read_atom, read_column, read_condition, read_expression};
+pub use read::{read_condition, read_expression};
 
 #[cfg(test)]
 mod tests;

@@ -12,7 +12,7 @@ use mt_tree::Cond;
 use sqlite_items::{Boxed, Items};
 use std::alloc::{AllocError, Global};
 
-/// TakesExactly a condition; `None` is for a number outside 64 bits, here and below.
+/// Takes a condition; `None` is for a number outside 64 bits, here and below.
 #[tactic(auto, unfolding(crate::specs::Descent::cond_of))]
 pub(crate) fn condition(alloc: Global, reader: &mut Reader<'_>) -> Result<Option<Cond>, ReadFault>
     ensures { TakesInside IsCondInside result reader.new (cond_of reader.old) }
@@ -20,7 +20,7 @@ pub(crate) fn condition(alloc: Global, reader: &mut Reader<'_>) -> Result<Option
     disjunction(alloc, reader, DEPTH)
 }
 
-/// TakesExactly conditions with OR between, with so many brackets and NOT about one another at most.
+/// Takes conditions with OR between, with so many brackets and NOT about one another at most.
 #[cycle(condition)]
 fn disjunction(
     alloc: Global,
@@ -40,7 +40,7 @@ fn disjunction(
     Ok(any_of(members))
 }
 
-/// TakesExactly conditions with AND between.
+/// Takes conditions with AND between.
 #[cycle(condition)]
 fn conjunction(
     alloc: Global,
@@ -60,7 +60,7 @@ fn conjunction(
     Ok(all_of(members))
 }
 
-/// TakesExactly a predicate, or a condition behind NOT or in brackets.
+/// Takes a predicate, or a condition behind NOT or in brackets.
 #[cycle(condition)]
 fn negation(alloc: Global, reader: &mut Reader<'_>, depth: usize) -> Result<Option<Cond>, ReadFault>
     ensures { TakesInside IsCondInside result reader.new (neg_of depth reader.old) }

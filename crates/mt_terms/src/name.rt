@@ -9,7 +9,7 @@ use mt_reader::{ReadFault, Reader};
 use mt_tree::ColName;
 use std::alloc::Global;
 
-/// TakesExactly a column: a name, or a table's name, a dot and a name.
+/// Takes a column: a name, or a table's name, a dot and a name.
 #[tactic(auto, unfolding(crate::specs::Descent::column_of))]
 pub(crate) fn column(alloc: Global, reader: &mut Reader<'_>) -> Result<ColName, ReadFault>
     ensures { TakesExactly result (λ column. (column, reader.new)) (column_of reader.old) }
@@ -28,7 +28,7 @@ pub(crate) fn column(alloc: Global, reader: &mut Reader<'_>) -> Result<ColName, 
     })
 }
 
-/// TakesExactly a column in brackets.
+/// Takes a column in brackets.
 #[tactic(auto, unfolding(mt_reader::specs::Descent::bracketed_of))]
 pub(crate) fn argument(alloc: Global, reader: &mut Reader<'_>) -> Result<ColName, ReadFault>
     ensures { TakesExactly result (λ column. (column, reader.new)) (bracketed_of column_of reader.old) }

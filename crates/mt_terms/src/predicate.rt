@@ -9,7 +9,7 @@ use mt_reader::{ReadFault, Reader};
 use mt_tree::{Atom, Cond};
 use std::alloc::Global;
 
-/// TakesExactly a predicate: an atom, and what is said of it.
+/// Takes a predicate: an atom, and what is said of it.
 #[tactic(auto, unfolding(crate::specs::Descent::plain_of))]
 pub(crate) fn predicate(alloc: Global, reader: &mut Reader<'_>) -> Result<Option<Cond>, ReadFault>
     ensures { TakesInside IsCondInside result reader.new (plain_of reader.old) }

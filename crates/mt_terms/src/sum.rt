@@ -1,7 +1,7 @@
 ghost use Rattle.std.specs.Prelude.{◌≡◌, Option, Some, None, is_some, option_map};
 ghost use Rattle.mt_lexer.specs.Tokens.{Lexeme};
 ghost use Rattle.mt_reader.specs.Taken.{TakesAny, TakesInside};
-ghost use Rattle.mt_terms.specs.Descent.{alone_of, term_of, sign_of, sum_of, factor_of, expr_of};
+ghost use Rattle.mt_terms.specs.Descent.{alone_of, term_of, minus_of, sign_of, sum_of, factor_of, expr_of};
 ghost use Rattle.mt_terms.specs.Inside.{IsExprInside};
 
 use crate::leaf::atom;
@@ -15,7 +15,7 @@ use std::alloc::Global;
 /// How many brackets, and NOT, may stand about one another.
 pub(crate) const DEPTH: usize = 64;
 
-/// TakesExactly an expression; `None` is for a number outside 64 bits, here and below.
+/// Takes an expression; `None` is for a number outside 64 bits, here and below.
 #[tactic(auto, unfolding(crate::specs::Descent::expr_of))]
 pub(crate) fn expression(alloc: Global, reader: &mut Reader<'_>) -> Result<Option<Expr>, ReadFault>
     ensures { TakesInside IsExprInside result reader.new (expr_of reader.old) }
@@ -23,7 +23,7 @@ pub(crate) fn expression(alloc: Global, reader: &mut Reader<'_>) -> Result<Optio
     sum(alloc, reader, DEPTH)
 }
 
-/// TakesExactly terms with signs between, with so many brackets about one another at most.
+/// Takes terms with signs between, with so many brackets about one another at most.
 #[cycle(expression)]
 #[tactic(auto, unfolding(crate::specs::Descent::sum_of))]
 fn sum(alloc: Global, reader: &mut Reader<'_>, depth: usize) -> Result<Option<Expr>, ReadFault>
@@ -41,7 +41,7 @@ fn sum(alloc: Global, reader: &mut Reader<'_>, depth: usize) -> Result<Option<Ex
     Ok(summed(terms))
 }
 
-/// TakesExactly factors with stars between.
+/// Takes factors with stars between.
 #[cycle(expression)]
 fn product(alloc: Global, reader: &mut Reader<'_>, depth: usize) -> Result<Option<Expr>, ReadFault>
     ensures { TakesInside IsExprInside result reader.new (term_of (factor_of depth) reader.old) }
@@ -57,7 +57,7 @@ fn product(alloc: Global, reader: &mut Reader<'_>, depth: usize) -> Result<Optio
     Ok(multiplied(factors))
 }
 
-/// TakesExactly an atom, or a sum in brackets.
+/// Takes an atom, or a sum in brackets.
 #[cycle(expression)]
 fn factor(alloc: Global, reader: &mut Reader<'_>, depth: usize) -> Result<Option<Expr>, ReadFault>
     ensures { TakesInside IsExprInside result reader.new (factor_of depth reader.old) }
@@ -73,7 +73,7 @@ fn factor(alloc: Global, reader: &mut Reader<'_>, depth: usize) -> Result<Option
     Ok(inner)
 }
 
-/// TakesExactly an atom by itself.
+/// Takes an atom by itself.
 #[tactic(auto, using(crate::proofs::Inside::keeps_atom), unfolding(crate::specs::Descent::alone_of))]
 fn alone(alloc: Global, reader: &mut Reader<'_>) -> Result<Option<Expr>, ReadFault>
     ensures { TakesInside IsExprInside result reader.new (alone_of reader.old) }
@@ -94,21 +94,31 @@ fn leaf(found: Option<Atom>) -> Option<Expr>
 fn is_at_sign(reader: &Reader<'_>) -> bool
     ensures { result ≡ is_some (sign_of reader.now) }
 {
-    reader.is_at_symbol(Symbol::Plus) || reader.is_at_symbol(Symbol::Minus)
+    match reader.first_symbol() {
+        Some(symbol) => minus_of(symbol).is_some(),
+        None => false,
+    }
 }
 
-/// TakesExactly a sign, if there is one: whether it is a minus.
+/// Takes a sign, if there is one: whether it is a minus.
 #[tactic(auto, unfolding(crate::specs::Descent::sign_of))]
 fn sign(reader: &mut Reader<'_>) -> Option<bool>
     ensures { TakesAny result reader.old reader.new (sign_of reader.old) }
 {
-    if reader.takes_symbol(Symbol::Plus) {
-        return Some(false);
+    let minus = minus_of(reader.first_symbol()?)?;
+    reader.skip();
+    Some(minus)
+}
+
+/// Whether a symbol is the sign of a minus, or of a plus.
+fn minus_of(symbol: Symbol) -> Option<bool>
+    ensures { result ≡ minus_of symbol }
+{
+    match symbol {
+        Symbol::Plus => Some(false),
+        Symbol::Minus => Some(true),
+        _ => None,
     }
-    if reader.takes_symbol(Symbol::Minus) {
-        return Some(true);
-    }
-    None
 }
 
 /// One member of a sum.

@@ -1,6 +1,6 @@
 ghost use Rattle.std.specs.Prelude.{◌≡◌, Option, option_map};
 ghost use Rattle.mt_reader.specs.Taken.{TakesAny, TakesInside};
-ghost use Rattle.mt_terms.specs.Descent.{cmp_of, compare_of, test_of, tested_of, worded_of, member_of, between_of, like_of, both};
+ghost use Rattle.mt_terms.specs.Descent.{cmp_of, compare_of, test_of, said_of, tested_of, worded_of, member_of, between_of, like_of, both};
 ghost use Rattle.mt_terms.specs.Inside.{IsTestInside};
 
 use crate::form::AtomForm;
@@ -23,7 +23,7 @@ pub(crate) enum Test {
     IsNull(bool),
 }
 
-/// TakesExactly what stands behind the first atom of a predicate; `None` is for a number outside 64 bits,
+/// Takes what stands behind the first atom of a predicate; `None` is for a number outside 64 bits,
 /// here and below.
 #[tactic(auto, using(crate::proofs::Inside::keeps_compare), unfolding(crate::specs::Descent::test_of))]
 pub(crate) fn rest_of_predicate(
@@ -36,6 +36,14 @@ pub(crate) fn rest_of_predicate(
         let right = atom(alloc, reader)?;
         return Ok(compare(op, right));
     }
+    said(alloc, reader)
+}
+
+/// Takes what begins with a word: IS, IN, BETWEEN or LIKE, and NOT before the last three.
+#[tactic(auto, unfolding(crate::specs::Descent::said_of))]
+fn said(alloc: Global, reader: &mut Reader<'_>) -> Result<Option<Test>, ReadFault>
+    ensures { TakesInside IsTestInside result reader.new (said_of reader.old) }
+{
     if reader.takes_word(b"is") {
         return null_test(reader);
     }
@@ -46,7 +54,7 @@ pub(crate) fn rest_of_predicate(
     }
 }
 
-/// TakesExactly a sign that compares, if there is one.
+/// Takes a sign that compares, if there is one.
 #[tactic(auto, unfolding(crate::specs::Descent::compare_of))]
 fn comparison(reader: &mut Reader<'_>) -> Option<Cmp>
     ensures { TakesAny result reader.old reader.new (compare_of reader.old) }
@@ -71,7 +79,7 @@ fn cmp_of(symbol: Symbol) -> Option<Cmp>
     }
 }
 
-/// TakesExactly what stands behind IS.
+/// Takes what stands behind IS.
 #[tactic(auto, unfolding(crate::specs::Descent::tested_of))]
 fn null_test(reader: &mut Reader<'_>) -> Result<Option<Test>, ReadFault>
     ensures { TakesInside IsTestInside result reader.new (tested_of reader.old) }
@@ -84,7 +92,7 @@ fn null_test(reader: &mut Reader<'_>) -> Result<Option<Test>, ReadFault>
     Ok(Some(Test::IsNull(false)))
 }
 
-/// TakesExactly IN, BETWEEN or LIKE, and what stands behind.
+/// Takes IN, BETWEEN or LIKE, and what stands behind.
 #[tactic(auto, unfolding(crate::specs::Descent::worded_of))]
 fn worded(alloc: Global, reader: &mut Reader<'_>, negated: bool) -> Result<Option<Test>, ReadFault>
     ensures { TakesInside IsTestInside result reader.new (worded_of negated reader.old) }
@@ -99,7 +107,7 @@ fn worded(alloc: Global, reader: &mut Reader<'_>, negated: bool) -> Result<Optio
     like(alloc, reader, negated)
 }
 
-/// TakesExactly the list of IN.
+/// Takes the list of IN.
 #[tactic(auto, unfolding(crate::specs::Descent::member_of))]
 fn member(alloc: Global, reader: &mut Reader<'_>, negated: bool) -> Result<Option<Test>, ReadFault>
     ensures { TakesInside IsTestInside result reader.new (member_of negated reader.old) }
@@ -108,7 +116,7 @@ fn member(alloc: Global, reader: &mut Reader<'_>, negated: bool) -> Result<Optio
     Ok(listed(negated, list))
 }
 
-/// TakesExactly the two bounds of BETWEEN. The AND between them is its own.
+/// Takes the two bounds of BETWEEN. The AND between them is its own.
 #[tactic(auto, unfolding(crate::specs::Descent::between_of))]
 fn between(alloc: Global, reader: &mut Reader<'_>, negated: bool) -> Result<Option<Test>, ReadFault>
     ensures { TakesInside IsTestInside result reader.new (between_of negated reader.old) }
@@ -119,7 +127,7 @@ fn between(alloc: Global, reader: &mut Reader<'_>, negated: bool) -> Result<Opti
     Ok(bounded(negated, low, high))
 }
 
-/// TakesExactly the pattern of LIKE.
+/// Takes the pattern of LIKE.
 #[tactic(auto, using(crate::proofs::Inside::keeps_like), unfolding(crate::specs::Descent::like_of))]
 fn like(alloc: Global, reader: &mut Reader<'_>, negated: bool) -> Result<Option<Test>, ReadFault>
     ensures { TakesInside IsTestInside result reader.new (like_of negated reader.old) }

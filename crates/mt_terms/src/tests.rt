@@ -1,210 +1,28 @@
 use crate::{
-    AtomForm, read_aggregate, read_atom, read_column, read_condition, read_expression,
+    ColumnForm, ConditionForm, ExpressionForm, read_condition, read_expression,
     terms_are_determined,
 };
 use mt_lexer::tokens;
-use mt_reader::{ReadFault, Reader, separated};
-use mt_tree::{Agg, Atom, ColName, Cond, Expr, Literal};
+use mt_reader::{Production, ReadFault, Reader};
+use mt_tree::{Atom, Cond, Expr, Literal, Term};
 use mt_value::Cmp;
 use std::alloc::{AllocError, Global};
+use std::fmt::Debug;
 use std::test::Fail;
 
-fn show_column(out: &mut String, column: &ColName) -> Result<(), AllocError> {
-    if let Some(qualifier) = &column.qualifier {
-        out.push_str(qualifier.as_str())?;
-        out.push_str(".")?;
-    }
-    out.push_str(column.name.as_str())
-}
-
-fn show_call(out: &mut String, function: &str, column: &ColName) -> Result<(), AllocError> {
-    out.push_str(function)?;
-    out.push_str("(")?;
-    show_column(out, column)?;
-    out.push_str(")")
-}
-
-fn show_agg(out: &mut String, agg: &Agg) -> Result<(), AllocError> {
-    match agg {
-        Agg::CountAll => out.push_str("COUNT(*)"),
-        Agg::Count(column) => show_call(out, "COUNT", column),
-        Agg::Sum(column) => show_call(out, "SUM", column),
-        Agg::Min(column) => show_call(out, "MIN", column),
-        Agg::Max(column) => show_call(out, "MAX", column),
-    }
-}
-
-fn show_atom(out: &mut String, atom: &Atom) -> Result<(), AllocError> {
-    match atom {
-        Atom::Column(column) => show_column(out, column),
-        Atom::Literal(Literal::Null) => out.push_str("NULL"),
-        Atom::Literal(Literal::Int(number)) => write!(out, "{number}"),
-        Atom::Literal(Literal::Text(text)) => {
-            out.push_str("'")?;
-            out.push_str(text.as_str())?;
-            out.push_str("'")
-        }
-        Atom::Agg(agg) => show_agg(out, agg),
-    }
-}
-
-/// Each sum and product in brackets, and each member of a sum with its sign.
-fn show_expr(out: &mut String, expr: &Expr) -> Result<(), AllocError> {
-    match expr {
-        Expr::Atom(atom) => show_atom(out, atom),
-        Expr::Sum(terms) => {
-            out.push_str("[")?;
-            for term in terms.as_slice() {
-                out.push_str(if term.minus { " -" } else { " +" })?;
-                show_expr(out, &term.expr)?;
-            }
-            out.push_str("]")
-        }
-        Expr::Product(factors) => {
-            out.push_str("[")?;
-            for factor in factors.as_slice() {
-                out.push_str(" *")?;
-                show_expr(out, factor)?;
-            }
-            out.push_str("]")
-        }
-    }
-}
-
-fn show_list(out: &mut String, atoms: &[Atom]) -> Result<(), AllocError> {
-    for atom in atoms {
-        out.push_str(" ")?;
-        show_atom(out, atom)?;
-    }
-    Ok(())
-}
-
-/// An atom, a word for what is said of it, and the other atoms.
-fn show_predicate(
-    out: &mut String,
-    atom: &Atom,
-    negated: bool,
-    word: &str,
-    others: &[&Atom],
-) -> Result<(), AllocError> {
-    show_atom(out, atom)?;
-    out.push_str(if negated { " not " } else { " " })?;
-    out.push_str(word)?;
-    for other in others {
-        out.push_str(" ")?;
-        show_atom(out, other)?;
-    }
-    Ok(())
-}
-
-fn cmp_text(op: Cmp) -> &'static str {
-    match op {
-        Cmp::Eq => "=",
-        Cmp::Ne => "<>",
-        Cmp::Lt => "<",
-        Cmp::Le => "<=",
-        Cmp::Gt => ">",
-        Cmp::Ge => ">=",
-    }
-}
-
-/// Each AND and OR in brackets, in front of its members.
-fn show_cond(out: &mut String, cond: &Cond) -> Result<(), AllocError> {
-    match cond {
-        Cond::Or(members) | Cond::And(members) => {
-            let is_or = matches!(cond, Cond::Or(_));
-            out.push_str(if is_or { "[or" } else { "[and" })?;
-            for member in members.as_slice() {
-                out.push_str(" ")?;
-                show_cond(out, member)?;
-            }
-            out.push_str("]")
-        }
-        Cond::Not(inner) => {
-            out.push_str("not ")?;
-            show_cond(out, inner.get())
-        }
-        Cond::Compare { op, left, right } => show_predicate(
-            out,
-            left,
-            false,
-            cmp_text(*op),
-            &[right],
-        ),
-        Cond::Member {
-            negated,
-            atom,
-            list,
-        } => {
-            show_predicate(out, atom, *negated, "in", &[])?;
-            show_list(out, list.as_slice())
-        }
-        Cond::Between {
-            negated,
-            atom,
-            low,
-            high,
-        } => show_predicate(out, atom, *negated, "between", &[low, high]),
-        Cond::Like {
-            negated,
-            atom,
-            pattern,
-        } => show_predicate(out, atom, *negated, "like", &[pattern]),
-        Cond::IsNull { negated, atom } => show_predicate(out, atom, *negated, "null", &[]),
-    }
-}
-
-/// What is read of a text.
-#[derive(Clone, Copy)]
-enum Form {
-    Column,
-    Aggregate,
-    Atom,
-    Atoms,
-    Expression,
-    Condition,
-}
-
-/// The tree in few words, or why there is none.
-fn show_reading(
-    out: &mut String,
-    alloc: Global,
-    reader: &mut Reader<'_>,
-    form: Form,
-) -> Result<(), ReadFault> {
-    match form {
-        Form::Column => show_column(out, &read_column(alloc, reader)?)?,
-        Form::Aggregate => show_agg(out, &read_aggregate(alloc, reader)?)?,
-        Form::Atom => match read_atom(alloc, reader)? {
-            Some(atom) => show_atom(out, &atom)?,
-            None => out.push_str("outside")?,
-        },
-        Form::Atoms => match separated::<AtomForm>(alloc, reader)? {
-            Some(atoms) => show_list(out, atoms.as_slice())?,
-            None => out.push_str("outside")?,
-        },
-        Form::Expression => match read_expression(alloc, reader)? {
-            Some(expr) => show_expr(out, &expr)?,
-            None => out.push_str("outside")?,
-        },
-        Form::Condition => match read_condition(alloc, reader)? {
-            Some(cond) => show_cond(out, &cond)?,
-            None => out.push_str("outside")?,
-        },
-    }
-    if !reader.is_at_end() {
-        out.push_str(" ..")?;
-    }
-    Ok(())
-}
-
-/// What a text reads as, with dots where something is left.
-fn reading(alloc: Global, form: Form, text: &str) -> Result<String, Fail> {
+/// What a text reads as, with dots where something is left, or why it does not.
+fn reading<P: Production>(alloc: Global, text: &str) -> Result<String, Fail>
+where
+    P::Tree: Debug,
+{
     let found = tokens(alloc, text)?;
     let mut reader = Reader::new(text, found.as_slice());
-    let mut out = String::new(alloc);
-    match show_reading(&mut out, alloc, &mut reader, form) {
-        Ok(()) => Ok(out),
+    match P::take(alloc, &mut reader) {
+        Ok(Some(tree)) => {
+            let left = if reader.is_at_end() { "" } else { " .." };
+            Ok(format!(in alloc; "{tree:?}{left}")?)
+        }
+        Ok(None) => Ok(String::from_str(alloc, "outside")?),
         Err(ReadFault::Unread) => Ok(String::from_str(alloc, "unread")?),
         Err(ReadFault::Memory) => Err(AllocError)?,
     }
@@ -214,45 +32,33 @@ fn reading(alloc: Global, form: Form, text: &str) -> Result<String, Fail> {
 fn reads_expressions(rt: HostRuntime) -> Result<(), Fail> {
     terms_are_determined();
     let table = [
-        ("a", "a"),
-        ("A.b", "a.b"),
+        ("COUNT ( * ) b", "Atom(Agg(CountAll)) .."),
+        (
+            "Max(T.a)",
+            "Atom(Agg(Max(ColName { qualifier: Some(Str { text: \"t\" }), name: Str { text: \"a\" } })))",
+        ),
+        (
+            "((-9223372036854775808))",
+            "Atom(Literal(Int(-9223372036854775808)))",
+        ),
+        (
+            "1 - 2*3",
+            "Sum(Items { items: [Term { minus: false, expr: Atom(Literal(Int(1))) }, Term { minus: true, expr: Product(Items { items: [Atom(Literal(Int(2))), Atom(Literal(Int(3)))] }) }] })",
+        ),
+        (
+            "(NULL+-5)*'it''s'",
+            "Product(Items { items: [Sum(Items { items: [Term { minus: false, expr: Atom(Literal(Null)) }, Term { minus: false, expr: Atom(Literal(Int(-5))) }] }), Atom(Literal(Text(Str { text: \"it's\" })))] })",
+        ),
+        ("1 * 9223372036854775808", "outside"),
+        ("1 - 9223372036854775808 b", "outside"),
         ("a.", "unread"),
-        ("1 - -1", "[ +1 --1]"),
-        ("a-1", "[ +a -1]"),
-        ("- 5", "-5"),
         ("- a", "unread"),
-        ("a*b+c", "[ +[ *a *b] +c]"),
-        ("(a+b)*c", "[ *[ +a +b] *c]"),
-        ("a - (b - c)", "[ +a -[ +b -c]]"),
-        ("((a))", "a"),
         ("(a", "unread"),
-        ("a b", "a .."),
-        ("COUNT(*) + max(t.x)", "[ +COUNT(*) +MAX(t.x)]"),
         ("MIN(*)", "unread"),
-        ("a * 9223372036854775808", "outside"),
-        ("a - -9223372036854775808", "[ +a --9223372036854775808]"),
-        ("a - 9223372036854775808 b", "outside .."),
+        ("select", "unread"),
     ];
     for (text, want) in table {
-        let got = reading(rt.alloc(), Form::Expression, text)?;
-        assert_eq!(rt; got.as_str(), want, "of {text}");
-    }
-    Ok(())
-}
-
-#[test]
-fn reads_parts(rt: HostRuntime) -> Result<(), Fail> {
-    let table = [
-        (Form::Column, "t . a, b", "t.a .."),
-        (Form::Column, "select", "unread"),
-        (Form::Aggregate, "Sum ( a )", "SUM(a)"),
-        (Form::Aggregate, "count", "unread"),
-        (Form::Atom, "null x", "NULL .."),
-        (Form::Atom, "-99999999999999999999", "outside"),
-        (Form::Atoms, "1, 'it''s', a", " 1 'it's' a"),
-    ];
-    for (form, text, want) in table {
-        let got = reading(rt.alloc(), form, text)?;
+        let got = reading::<ExpressionForm>(rt.alloc(), text)?;
         assert_eq!(rt; got.as_str(), want, "of {text}");
     }
     Ok(())
@@ -261,59 +67,202 @@ fn reads_parts(rt: HostRuntime) -> Result<(), Fail> {
 #[test]
 fn reads_conditions(rt: HostRuntime) -> Result<(), Fail> {
     let table = [
-        ("a = b", "a = b"),
-        ("a = b = c", "a = b .."),
-        ("NOT NOT a <> b", "not not a <> b"),
         (
-            "NOT (a > 1 OR b < 2) AND c IS NOT NULL",
-            "[and not [or a > 1 b < 2] c not null]",
+            "1=1 or 2<>2 and NOT 3<4",
+            "Or(Items { items: [Compare { op: Eq, left: Literal(Int(1)), right: Literal(Int(1)) }, And(Items { items: [Compare { op: Ne, left: Literal(Int(2)), right: Literal(Int(2)) }, Not(Boxed { inner: Compare { op: Lt, left: Literal(Int(3)), right: Literal(Int(4)) } })] })] })",
         ),
-        ("a<=1 or b>=2 and c=3", "[or a <= 1 [and b >= 2 c = 3]]"),
-        ("(a) = b", "unread"),
-        ("((a = b))", "a = b"),
-        ("a IN ()", "unread"),
-        ("a IN (1, NULL)", "a in 1 NULL"),
-        ("x BETWEEN 1 AND 2 AND y = 3", "[and x between 1 2 y = 3]"),
-        ("x not between 1 and 2", "x not between 1 2"),
-        ("a NOT LIKE 'x%'", "a not like 'x%'"),
-        ("a NOT = b", "unread"),
-        ("a not in (b) x", "a not in b .."),
+        (
+            "(1>=2) = 3",
+            "Compare { op: Ge, left: Literal(Int(1)), right: Literal(Int(2)) } ..",
+        ),
+        (
+            "1 BETWEEN 2 AND 3 AND 4<=5",
+            "And(Items { items: [Between { negated: false, atom: Literal(Int(1)), low: Literal(Int(2)), high: Literal(Int(3)) }, Compare { op: Le, left: Literal(Int(4)), right: Literal(Int(5)) }] })",
+        ),
+        (
+            "1 not in (2, NULL)",
+            "Member { negated: true, atom: Literal(Int(1)), list: Items { items: [Literal(Int(2)), Literal(Null)] } }",
+        ),
+        (
+            "1 NOT LIKE 'x%'",
+            "Like { negated: true, atom: Literal(Int(1)), pattern: Literal(Text(Str { text: \"x%\" })) }",
+        ),
+        (
+            "1 IS NOT NULL",
+            "IsNull { negated: true, atom: Literal(Int(1)) }",
+        ),
         ("a is null or a = 9223372036854775808", "outside"),
+        ("(a) = b", "unread"),
+        ("a IN ()", "unread"),
+        ("a NOT = b", "unread"),
     ];
     for (text, want) in table {
-        let got = reading(rt.alloc(), Form::Condition, text)?;
+        let got = reading::<ConditionForm>(rt.alloc(), text)?;
         assert_eq!(rt; got.as_str(), want, "of {text}");
     }
     Ok(())
 }
 
-/// The text between so many brackets.
-fn in_brackets(alloc: Global, text: &str, depth: u8) -> Result<String, AllocError> {
-    let mut out = String::new(alloc);
-    for _ in 0..depth {
-        out.push_str("(")?;
+#[test]
+fn reads_a_column(rt: HostRuntime) -> Result<(), Fail> {
+    let got = reading::<ColumnForm>(rt.alloc(), "A, b")?;
+    assert_eq!(rt;
+        got.as_str(),
+        "ColName { qualifier: None, name: Str { text: \"a\" } } .."
+    );
+    Ok(())
+}
+
+/// A text, one that is repeated so many times, and a third.
+fn repeated(
+    alloc: Global,
+    front: &str,
+    unit: &str,
+    times: u32,
+    back: &str,
+) -> Result<String, AllocError> {
+    let mut out = String::from_str(alloc, front)?;
+    for _ in 0..times {
+        out.push_str(unit)?;
     }
-    out.push_str(text)?;
-    for _ in 0..depth {
-        out.push_str(")")?;
-    }
+    out.push_str(back)?;
     Ok(out)
+}
+
+/// The text between so many brackets.
+fn in_brackets(alloc: Global, text: &str, depth: u32) -> Result<String, AllocError> {
+    let opened = repeated(alloc, "", "(", depth, text)?;
+    repeated(alloc, opened.as_str(), ")", depth, "")
 }
 
 #[test]
 fn limits_brackets(rt: HostRuntime) -> Result<(), Fail> {
-    let table = [
-        (Form::Expression, "a", 64, "a"),
-        (Form::Expression, "a", 65, "unread"),
-        (Form::Condition, "a = b", 64, "a = b"),
-        (Form::Condition, "a = b", 65, "unread"),
-        (Form::Condition, "NOT a = b", 63, "not a = b"),
-        (Form::Condition, "NOT a = b", 64, "unread"),
-    ];
-    for (form, text, depth, want) in table {
+    for (text, depth, is_read) in [("1", 64, true), ("1", 65, false)] {
         let text = in_brackets(rt.alloc(), text, depth)?;
-        let got = reading(rt.alloc(), form, text.as_str())?;
-        assert_eq!(rt; got.as_str(), want, "at {depth}");
+        let got = reading::<ExpressionForm>(rt.alloc(), text.as_str())?;
+        assert_eq!(rt; got.as_str() != "unread", is_read, "at {depth}");
+    }
+    for (text, depth, is_read) in [
+        ("1=1", 64, true),
+        ("1=1", 65, false),
+        ("NOT 1=1", 63, true),
+        ("NOT 1=1", 64, false),
+    ] {
+        let text = in_brackets(rt.alloc(), text, depth)?;
+        let got = reading::<ConditionForm>(rt.alloc(), text.as_str())?;
+        assert_eq!(rt; got.as_str() != "unread", is_read, "at {depth}");
+    }
+    Ok(())
+}
+
+/// The expression that a whole text is.
+fn whole_expression(alloc: Global, text: &str) -> Result<Option<Expr>, Fail> {
+    let found = tokens(alloc, text)?;
+    let mut reader = Reader::new(text, found.as_slice());
+    let read = read_expression(alloc, &mut reader);
+    if !reader.is_at_end() {
+        return Ok(None);
+    }
+    match read {
+        Ok(tree) => Ok(tree),
+        Err(ReadFault::Unread) => Ok(None),
+        Err(ReadFault::Memory) => Err(AllocError)?,
+    }
+}
+
+/// The condition that a whole text is.
+fn whole_condition(alloc: Global, text: &str) -> Result<Option<Cond>, Fail> {
+    let found = tokens(alloc, text)?;
+    let mut reader = Reader::new(text, found.as_slice());
+    let read = read_condition(alloc, &mut reader);
+    if !reader.is_at_end() {
+        return Ok(None);
+    }
+    match read {
+        Ok(tree) => Ok(tree),
+        Err(ReadFault::Unread) => Ok(None),
+        Err(ReadFault::Memory) => Err(AllocError)?,
+    }
+}
+
+fn is_a(atom: &Atom) -> bool {
+    match atom {
+        Atom::Column(column) => column.qualifier.is_none() && column.name.as_str() == "a",
+        Atom::Literal(_) | Atom::Agg(_) => false,
+    }
+}
+
+fn is_one(atom: &Atom) -> bool {
+    matches!(atom, Atom::Literal(Literal::Int(1)))
+}
+
+fn is_plus_one(term: &Term) -> bool {
+    match &term.expr {
+        Expr::Atom(atom) => !term.minus && is_one(atom),
+        Expr::Sum(_) | Expr::Product(_) => false,
+    }
+}
+
+fn is_a_equal_one(cond: &Cond) -> bool {
+    match cond {
+        Cond::Compare {
+            op: Cmp::Eq,
+            left,
+            right,
+        } => is_a(left) && is_one(right),
+        _ => false,
+    }
+}
+
+#[test]
+fn reads_a_sum_of_a_whole_line(rt: HostRuntime) -> Result<(), Fail> {
+    let text = repeated(rt.alloc(), "1", "+1", 32_749, "")?;
+    assert_eq!(rt; text.len(), 65_499);
+    match whole_expression(rt.alloc(), text.as_str())? {
+        Some(Expr::Sum(terms)) => {
+            assert_eq!(rt; terms.len(), 32_750);
+            assert!(rt; terms.as_slice().iter().all(|term| is_plus_one(term)));
+        }
+        _ => panic!(rt; "no sum"),
+    }
+    Ok(())
+}
+
+#[test]
+fn reads_an_and_of_a_whole_line(rt: HostRuntime) -> Result<(), Fail> {
+    let text = repeated(rt.alloc(), "a=1", " AND a=1", 8_187, "")?;
+    assert_eq!(rt; text.len(), 65_499);
+    match whole_condition(rt.alloc(), text.as_str())? {
+        Some(Cond::And(members)) => {
+            assert_eq!(rt; members.len(), 8_188);
+            assert!(rt;
+                members
+                    .as_slice()
+                    .iter()
+                    .all(|member| is_a_equal_one(member))
+            );
+        }
+        _ => panic!(rt; "no AND"),
+    }
+    Ok(())
+}
+
+#[test]
+fn reads_a_list_of_16_000_atoms(rt: HostRuntime) -> Result<(), Fail> {
+    let text = repeated(rt.alloc(), "a IN (1", ",1", 15_999, ")")?;
+    match whole_condition(rt.alloc(), text.as_str())? {
+        Some(
+            Cond::Member {
+                negated: false,
+                atom,
+                list,
+            },
+        ) => {
+            assert!(rt; is_a(&atom));
+            assert_eq!(rt; list.len(), 16_000);
+            assert!(rt; list.as_slice().iter().all(|member| is_one(member)));
+        }
+        _ => panic!(rt; "no list"),
     }
     Ok(())
 }
