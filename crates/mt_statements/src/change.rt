@@ -11,7 +11,7 @@ use mt_reader::{ReadFault, Reader};
 use mt_tree::Stmt;
 use std::alloc::Global;
 
-/// TakesExactly a statement that changes rows, up to the end of the tokens or a semicolon that ends them;
+/// Takes a statement that changes rows, up to the end of the tokens or a semicolon that ends them;
 /// `None` is one with a number outside 64 bits.
 ///
 /// `ReadFault::Unread` says that the tokens are no such statement, and `ReadFault::Memory` that
@@ -23,7 +23,7 @@ pub fn read_change(alloc: Global, reader: &mut Reader<'_>) -> Result<Option<Stmt
     change(alloc, reader)
 }
 
-/// TakesExactly a statement by its first word.
+/// Takes a statement by its first word.
 #[tactic(auto, unfolding(crate::specs::ChangeDescent::change_of))]
 fn change(alloc: Global, reader: &mut Reader<'_>) -> Result<Option<Stmt>, ReadFault>
     ensures { TakesInside IsChangeInside result reader.new (change_of reader.old) }

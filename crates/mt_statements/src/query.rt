@@ -20,7 +20,7 @@ use mt_reader::{ReadFault, Reader};
 use mt_tree::{Item, Ref, Select};
 use std::alloc::Global;
 
-/// TakesExactly a SELECT, up to the end of the tokens or a semicolon that ends them; `None` is one with a
+/// Takes a SELECT, up to the end of the tokens or a semicolon that ends them; `None` is one with a
 /// number outside 64 bits. The second clause is for the readers of longer forms.
 pub fn read_select(alloc: Global, reader: &mut Reader<'_>) -> Result<Option<Select>, ReadFault>
     ensures spelled { TakesFront SpellsSelect AtEnd (Keeps IsSelectInside) result reader.old reader.new }
@@ -29,7 +29,7 @@ pub fn read_select(alloc: Global, reader: &mut Reader<'_>) -> Result<Option<Sele
     select(alloc, reader)
 }
 
-/// TakesExactly a SELECT.
+/// Takes a SELECT.
 #[tactic(auto, unfolding(crate::specs::QueryDescent::select_of))]
 fn select(alloc: Global, reader: &mut Reader<'_>) -> Result<Option<Select>, ReadFault>
     ensures { TakesInside IsSelectInside result reader.new (select_of reader.old) }
@@ -43,7 +43,7 @@ fn select(alloc: Global, reader: &mut Reader<'_>) -> Result<Option<Select>, Read
     Ok(selected(distinct, items, refs, clauses))
 }
 
-/// TakesExactly DISTINCT, if it comes next: whether it does.
+/// Takes DISTINCT, if it comes next: whether it does.
 #[tactic(auto, unfolding(crate::specs::QueryDescent::flag_of))]
 fn is_distinct(reader: &mut Reader<'_>) -> bool
     ensures { flag_of (Word (codes "distinct")) reader.old ≡ Some (result, reader.new) }
