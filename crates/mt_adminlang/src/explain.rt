@@ -3,8 +3,8 @@ ghost use Rattle.mt_adminlang.specs.Descent.{explain_of, command_of};
 ghost use Rattle.mt_adminlang.specs.Inside.{IsCommandInside};
 
 use crate::command::plain_command;
-use mt_statements::read_select;
 use mt_reader::{ReadFault, Reader, size_of};
+use mt_statements::read_select;
 use mt_tree::AdminCmd;
 use std::alloc::Global;
 
