@@ -4,10 +4,9 @@ use Rattle.std.specs.Option.{option_and_then}
 use Rattle.std.specs.Prelude.{codes}
 use Rattle.mt_lexer.specs.declared.token.Symbol.TheVariants as symbol
 use Rattle.mt_lexer.specs.Tokens.{Lexeme, Word, Number, Sign}
-use Rattle.mt_tree.specs.declared.expression.Cond.{Cond}
 use Rattle.mt_reader.specs.Descent.{is_same, after, either, number_of, separated_of, maybe_of}
 use Rattle.mt_reader.specs.Forms.{Form, Commas}
-use Rattle.mt_reader.specs.Fronts.{Begins, BeginsWithNone, AtEnd}
+use Rattle.mt_reader.specs.Fronts.{Begins, AtEnd}
 use Rattle.mt_reader.proofs.Eithers.{either_some}
 use Rattle.mt_reader.proofs.Maybes.{MaybeBehind, maybe_sound, maybe_complete}
 use Rattle.mt_reader.proofs.Shrinking.{bind_some, same_tree, same_rest}
@@ -18,10 +17,11 @@ use Rattle.mt_terms.specs.Expression.{SpellsColumn}
 use Rattle.mt_terms.specs.Follow.{atom_goes_on, cond_goes_on}
 use Rattle.mt_terms.proofs.Atoms.{column_sound, column_shrinks}
 use Rattle.mt_terms.proofs.Conditions.{cond_sound}
-use Rattle.mt_terms.proofs.Follow.{column_follows, cond_follows}
+use Rattle.mt_terms.proofs.Follow.{column_follows}
 use Rattle.mt_statements.specs.declared.clauses.Clauses.{Clauses}
 use Rattle.mt_statements.specs.QueryDescent.{listed_of, by_items_of, key_of, clauses_of}
 use Rattle.mt_statements.specs.Query.{SpellsKey, SpellsNumber}
+use Rattle.mt_statements.proofs.Filters.{cond_before}
 use Rattle.mt_statements.proofs.Keys.{behind_key, key_sound, key_complete, key_shrinks}
 use Rattle.mt_statements.proofs.Starts.{StartsAmong, MaybeListed, behind_limit, behind_order, behind_having, behind_group, behind_where, behind_refs, among_none, among_begins_none, among_maybe, among_listed, at_end_among}
 
@@ -134,10 +134,6 @@ clauses_sound lexemes rest clauses e =
     subst (λ left. Begins SpellsClauses lexemes left clauses) (same_rest f.2) (
     subst (Begins SpellsClauses lexemes f.0.1) (same_tree f.2) (clauses_begin lexemes a.0.1 b.0.1 c.0.1 d.0.1 f.0.1 made w g h o l)
     )
-
--- a condition is read, where none of these goes on with it
-cond_before : (by : Lexeme) (front more : List Lexeme) (cond : Option Cond) → is_same by by ≡ true → BeginsWithNone cond_goes_on more → after by more ≡ None → MaybeBehind SpellsCond by front cond → maybe_of cond_of by (front ++ more) ≡ Some (cond, more)
-cond_before by front more cond same end none s = maybe_complete SpellsCond cond_of by (BeginsWithNone cond_goes_on) same cond_follows front more cond end none s
 
 -- The clauses are followed by these tokens: what each of them begins with, and all that is behind it.
 record ClausesStart (front more : List Lexeme) (clauses : Clauses) (s : SpellsClauses front clauses) : Type 0 where

@@ -21,7 +21,7 @@ use Rattle.mt_reader.proofs.Spelling.{IsSound, IsComplete, Shrinks, after_is, na
 use Rattle.mt_statements.specs.Change.{SpellsTuple, SpellsInsert, SpellsChange}
 use Rattle.mt_statements.specs.ChangeDescent.{tuple_of, few_tuples_of, columns_of, insert_of, change_of}
 use Rattle.mt_statements.proofs.Counted.{at_most_some, at_most_few}
-use Rattle.mt_statements.proofs.Filters.{no_comma_at_end}
+use Rattle.mt_statements.proofs.Starts.{behind_limit, among_none, at_end_among}
 
 -- tuples
 
@@ -144,4 +144,4 @@ insert_complete front more insert end s =
     ap (λ ls. ls ++ more) (s.spelling ∙ ap (λ ls. Word (codes "insert") ∷ Word (codes "into") ∷ (ls ++ s.columns ++ Word (codes "values") ∷ s.tuples)) s.is_table.0)
     ∙ ap (λ ls. Word (codes "insert") ∷ Word (codes "into") ∷ Word insert.table ∷ ls) (append_assoc s.columns (Word (codes "values") ∷ s.tuples) more) in
     ap change_of all
-    ∙ insert_read insert.table insert.columns insert.tuples lexemes behind more s.is_table.1 (columns_complete s.columns (Word (codes "values") ∷ behind) insert.columns (no_open_values behind) s.are_columns) (few_complete 1000 s.tuples more insert.tuples (no_comma_at_end more end) s.are_tuples s.few)
+    ∙ insert_read insert.table insert.columns insert.tuples lexemes behind more s.is_table.1 (columns_complete s.columns (Word (codes "values") ∷ behind) insert.columns (no_open_values behind) s.are_columns) (few_complete 1000 s.tuples more insert.tuples (among_none (Sign symbol.Comma) behind_limit more refl (at_end_among more end)) s.are_tuples s.few)
