@@ -6,17 +6,15 @@ use Rattle.mt_lexer.specs.Tokens.{Lexeme, Word, Number}
 use Rattle.mt_tree.specs.declared.command.AdminCmd.{AdminCmd}
 use Rattle.mt_tree.specs.declared.command.AdminCmd.TheVariants.{CreateTable, CreateExtension, CreateTenant, Extend, SetQuota, Advise, ShowFold, Refold, Step, Explain}
 use Rattle.mt_tree.specs.declared.statement.Select.{Select}
-use Rattle.mt_reader.specs.Descent.{after, number_of}
+use Rattle.mt_reader.specs.Descent.{after, either, number_of, ended}
 use Rattle.mt_reader.specs.Forms.{WithSemicolon}
 use Rattle.mt_reader.specs.Fronts.{AtEnd, Begins}
 use Rattle.mt_reader.proofs.Shrinking.{bind_some, same_tree, same_rest}
 use Rattle.mt_reader.proofs.Spelling.{IsSound, IsCompleteBefore, after_is, number_is, ended_sound, ended_complete}
-use Rattle.mt_reader.specs.Descent.{ended}
 use Rattle.mt_statements.specs.QueryDescent.{select_of}
 use Rattle.mt_statements.proofs.Selects.{select_sound, select_follows}
 use Rattle.mt_adminlang.specs.Command.{SpellsCommand}
 use Rattle.mt_adminlang.specs.Descent.{explain_of, plain_command_of, command_of}
-use Rattle.mt_reader.specs.Descent.{either}
 use Rattle.mt_adminlang.specs.Plain.{SpellsPlainCommand}
 use Rattle.mt_adminlang.proofs.Commands.{plain_command_sound}
 use Rattle.mt_adminlang.proofs.Follow.{plain_command_follows, plain_begins}

@@ -6,7 +6,7 @@ use Rattle.mt_lexer.specs.declared.token.Symbol.TheVariants as symbol
 use Rattle.mt_lexer.specs.Tokens.{Lexeme, Word, Sign}
 use Rattle.mt_tree.specs.declared.command.ChunkText.{ChunkText}
 use Rattle.mt_tree.specs.declared.command.FoldText.{FoldText}
-use Rattle.mt_reader.specs.Descent.{after, names_of}
+use Rattle.mt_reader.specs.Descent.{after, either, names_of}
 use Rattle.mt_reader.specs.Forms.{Commas}
 use Rattle.mt_reader.specs.Fronts.{Begins}
 use Rattle.mt_reader.proofs.Fronts.{none_after}
@@ -14,7 +14,6 @@ use Rattle.mt_reader.proofs.Shrinking.{bind_some, same_tree, same_rest}
 use Rattle.mt_reader.proofs.Spelling.{IsSound, IsComplete, IsCompleteBefore, Shrinks, after_is, after_same, separated_sound, separated_complete, sound_shrinks}
 use Rattle.mt_adminlang.specs.Command.{IsShape, SpellsChunk, SpellsChunks, SpellsConv, SpellsFold}
 use Rattle.mt_adminlang.specs.Descent.{shape_behind, shape_of, chunk_of, chunks_of, more_chunks_of, conv_of, chunks_alone_of, fold_of}
-use Rattle.mt_reader.specs.Descent.{either}
 use Rattle.mt_adminlang.proofs.Definitions.{names_sound, names_complete}
 use Rattle.mt_reader.proofs.Eithers.{either_some}
 

@@ -1,5 +1,5 @@
 -- Assignments and UPDATE: what is read is spelled so, and what is spelled so is read.
-use Rattle.std.proofs.Common.{◌≡◌, ℕ, ◌<◌, false, Option, Some, List, [], ◌∷◌, ◌++◌, length, refl, sym, ap, ◌∙◌, subst, append_assoc, arith}
+use Rattle.std.proofs.Common.{◌≡◌, ℕ, ◌<◌, false, Option, Some, List, [], ◌∷◌, ◌++◌, length, refl, sym, ap, ◌∙◌, subst, append_assoc, inl, inr, arith}
 use Rattle.std.specs.Option.{option_map}
 use Rattle.std.specs.Prelude.{codes}
 use Rattle.mt_lexer.specs.declared.token.Symbol.TheVariants as symbol
@@ -17,13 +17,17 @@ use Rattle.mt_reader.specs.Taken.{Keeps, Took}
 use Rattle.mt_reader.proofs.Fronts.{keeps_map}
 use Rattle.mt_reader.proofs.Shrinking.{bind_some, same_tree, same_rest}
 use Rattle.mt_reader.proofs.Spelling.{IsSound, IsCompleteBefore, Shrinks, sound_shrinks, after_is, name_is, separated_sound, separated_complete_before}
-use Rattle.mt_terms.specs.Descent.{expr_of, sign_of}
+use Rattle.mt_terms.specs.Condition.{SpellsCond}
+use Rattle.mt_terms.specs.Descent.{expr_of}
+use Rattle.mt_terms.specs.Follow.{expr_goes_on}
 use Rattle.mt_terms.specs.Inside.{IsExprInside}
-use Rattle.mt_terms.proofs.Expressions.{EndsSum, expr_sound, expr_complete}
+use Rattle.mt_terms.proofs.Expressions.{expr_sound}
+use Rattle.mt_terms.proofs.Follow.{expr_follows}
 use Rattle.mt_statements.specs.Change.{SpellsSet, SpellsUpdate, SpellsChange}
 use Rattle.mt_statements.specs.ChangeDescent.{assigned, set_of, update_of, change_of}
 use Rattle.mt_statements.specs.ChangeInside.{IsSetInside}
-use Rattle.mt_statements.proofs.Filters.{where_of, where_sound, where_complete, expression_before_where, no_comma_before_where}
+use Rattle.mt_statements.proofs.Filters.{where_of, where_sound, where_complete}
+use Rattle.mt_statements.proofs.Starts.{StartsAmong, behind_limit, among_none, among_begins_none, among_maybe, at_end_among}
 
 -- what is read is an assignment
 pub set_sound : IsSound SpellsSet set_of
@@ -56,11 +60,19 @@ set_read : (column : List ℕ) (value : Expr) (lexemes more : List Lexeme) → i
 unfolding set_of name_of after
 set_read column value lexemes more free read = rw (free, read) refl
 
--- an assignment is read, where its expression ends
-pub set_complete : IsCompleteBefore SpellsSet EndsSum set_of
+-- the starts of what may stand behind the assignments, and behind each
+abbrev behind_sets : List Lexeme
+behind_sets = Word (codes "where") ∷ behind_limit
+
+-- a comma too
+abbrev behind_set : List Lexeme
+behind_set = Sign symbol.Comma ∷ behind_sets
+
+-- an assignment is read
+set_complete : IsCompleteBefore SpellsSet (StartsAmong behind_set) set_of
 set_complete front more item end s =
     ap (λ ls. set_of (ls ++ more)) (set_is front item s)
-    ∙ set_read item.column item.expr (s.is_right.inner ++ more) more s.is_left.1 (expr_complete s.is_right.inner more item.expr end s.is_right.body)
+    ∙ set_read item.column item.expr (s.is_right.inner ++ more) more s.is_left.1 (expr_follows s.is_right.inner more item.expr (among_begins_none behind_set expr_goes_on more refl refl end) s.is_right.body)
 
 -- an assignment has a lexeme at least
 set_nonempty : (front : List Lexeme) (item : SetItem) → SpellsSet front item → 0 < length front
@@ -82,11 +94,6 @@ set_took column lexemes mid behind left kept named equal t = record {
   reads = rw (named, equal, t.reads) refl;
   keeps = keeps_assigned column kept t.tree t.keeps;
 }
-
--- an expression ends before a comma
-before_comma : (rest : List Lexeme) → EndsSum (Sign symbol.Comma ∷ rest)
-unfolding after sign_of
-before_comma rest = ((refl, refl), refl)
 
 -- what is read behind UPDATE is spelled so
 pub update_sound : (lexemes left rest : List Lexeme) (statement : Stmt) → lexemes ≡ Word (codes "update") ∷ left → update_of left ≡ Some (statement, rest) → Begins SpellsChange lexemes rest statement
@@ -127,5 +134,6 @@ update_complete front more update end s =
     let all : front ++ more ≡ Word (codes "update") ∷ Word update.table ∷ Word (codes "set") ∷ (s.sets ++ behind) =
     ap (λ ls. ls ++ more) (s.spelling ∙ ap (λ ls. Word (codes "update") ∷ (ls ++ Word (codes "set") ∷ (s.sets ++ s.condition))) s.is_table.0)
     ∙ ap (λ ls. Word (codes "update") ∷ Word update.table ∷ Word (codes "set") ∷ ls) (append_assoc s.sets s.condition more) in
-    let sets = separated_complete_before SpellsSet set_of (Sign symbol.Comma) EndsSum refl before_comma set_complete set_shrinks s.sets behind update.sets (expression_before_where s.condition more update.cond end s.is_condition) (no_comma_before_where s.condition more update.cond end s.is_condition) s.are_sets in
+    let starts = among_maybe SpellsCond (Word (codes "where")) behind_limit s.condition more update.cond s.is_condition (at_end_among more end) in
+    let sets = separated_complete_before SpellsSet set_of (Sign symbol.Comma) (StartsAmong behind_set) refl (λ rest. inl (rest, refl)) set_complete set_shrinks s.sets behind update.sets (inr starts) (among_none (Sign symbol.Comma) behind_sets behind refl starts) s.are_sets in
     ap change_of all ∙ update_read update.table update.sets update.cond (s.sets ++ behind) behind more s.is_table.1 sets (where_complete s.condition more update.cond end s.is_condition)

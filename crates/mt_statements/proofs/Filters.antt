@@ -1,21 +1,24 @@
 -- A table and perhaps a condition: what is read is spelled so, and what is spelled so is read.
-use Rattle.std.proofs.Common.{◌≡◌, ℕ, false, Option, Some, None, List, [], ◌∷◌, ◌++◌, refl, ap, ◌∙◌, subst, inl, inr}
+use Rattle.std.proofs.Common.{◌≡◌, ℕ, true, false, Option, Some, None, List, ◌∷◌, ◌++◌, refl, ap, ◌∙◌}
 use Rattle.std.specs.Prelude.{codes}
-use Rattle.mt_lexer.specs.declared.token.Symbol.TheVariants as symbol
-use Rattle.mt_lexer.specs.Tokens.{Lexeme, Word, Sign}
-use Rattle.mt_tree.specs.declared.expression.Cond.{Cond}
-use Rattle.mt_reader.specs.Descent.{after, name_of, maybe_of}
 use Rattle.mt_lexer.specs.Reserved.{is_reserved_name}
-use Rattle.mt_reader.specs.Fronts.{AtEnd}
-use Rattle.mt_reader.proofs.Maybes.{maybe_sound, maybe_complete}
-use Rattle.mt_reader.proofs.Shrinking.{bind_some, same_tree, same_rest}
-use Rattle.mt_reader.proofs.Spelling.{IsSound, IsCompleteBefore, name_is}
+use Rattle.mt_lexer.specs.Tokens.{Lexeme, Word}
+use Rattle.mt_tree.specs.declared.expression.Cond.{Cond}
+use Rattle.mt_reader.specs.Descent.{is_same, after, name_of, maybe_of}
+use Rattle.mt_reader.specs.Fronts.{AtEnd, BeginsWithNone}
+use Rattle.mt_reader.specs.Names.{IsName}
+use Rattle.mt_reader.proofs.Maybes.{MaybeBehind, maybe_sound, maybe_complete}
+use Rattle.mt_reader.proofs.Parts.{name_sound}
+use Rattle.mt_reader.proofs.Spelling.{IsSound, IsCompleteBefore}
 use Rattle.mt_terms.specs.Condition.{SpellsCond, SpellsWhere}
-use Rattle.mt_terms.specs.Descent.{cond_of, sign_of}
-use Rattle.mt_terms.proofs.Conditions.{EndsOr, cond_sound, cond_complete}
-use Rattle.mt_terms.proofs.Expressions.{EndsSum}
+use Rattle.mt_terms.specs.Descent.{cond_of}
+use Rattle.mt_terms.specs.Follow.{cond_goes_on}
+use Rattle.mt_terms.proofs.Conditions.{cond_sound}
+use Rattle.mt_terms.proofs.Follow.{cond_follows}
 use Rattle.mt_statements.specs.Change.{SpellsFilter}
 use Rattle.mt_statements.specs.ChangeDescent.{filter_of}
+use Rattle.mt_statements.proofs.Pairs.{pair_sound}
+use Rattle.mt_statements.proofs.Starts.{behind_limit, among_none, among_begins_none, at_end_among}
 
 -- what reads perhaps a condition behind WHERE
 abbrev pub where_of : List Lexeme → Option (Option Cond × List Lexeme)
@@ -25,63 +28,20 @@ where_of lexemes = maybe_of cond_of (Word (codes "where")) lexemes
 pub where_sound : IsSound SpellsWhere where_of
 where_sound = maybe_sound SpellsCond cond_of (Word (codes "where")) cond_sound
 
--- the end goes on with no condition
-end_of_condition : (more : List Lexeme) → AtEnd more → EndsOr more
-unfolding after
-end_of_condition more end = elim end [ inl e ↦ rw e ((refl, refl), refl) | inr e ↦ rw e ((refl, refl), refl) ]
+-- a condition behind this word is read, where no word comes that goes on with it
+pub cond_before : (by : Lexeme) (front more : List Lexeme) (cond : Option Cond) → is_same by by ≡ true → BeginsWithNone cond_goes_on more → after by more ≡ None → MaybeBehind SpellsCond by front cond → maybe_of cond_of by (front ++ more) ≡ Some (cond, more)
+cond_before by front more cond same end none s = maybe_complete SpellsCond cond_of by (BeginsWithNone cond_goes_on) same cond_follows front more cond end none s
 
--- no WHERE comes at the end
-no_where_at_end : (more : List Lexeme) → AtEnd more → after (Word (codes "where")) more ≡ None
-unfolding after
-no_where_at_end more end = elim end [ inl e ↦ rw e refl | inr e ↦ rw e refl ]
-
--- no comma comes at the end
-pub no_comma_at_end : (more : List Lexeme) → AtEnd more → after (Sign symbol.Comma) more ≡ None
-unfolding after
-no_comma_at_end more end = elim end [ inl e ↦ rw e refl | inr e ↦ rw e refl ]
-
--- the end goes on with no expression
-end_of_expression : (more : List Lexeme) → AtEnd more → EndsSum more
-unfolding after sign_of
-end_of_expression more end = elim end [ inl e ↦ rw e ((refl, refl), refl) | inr e ↦ rw e ((refl, refl), refl) ]
-
--- a condition behind WHERE is read, and so is nothing
+-- a condition behind WHERE is read at the end, and so is nothing
 pub where_complete : IsCompleteBefore SpellsWhere AtEnd where_of
 where_complete front more tree end s =
-    maybe_complete SpellsCond cond_of (Word (codes "where")) EndsOr refl cond_complete front more tree (end_of_condition more end) (no_where_at_end more end) s
-
--- an expression ends before WHERE, and before the end
-pub expression_before_where : (front more : List Lexeme) (tree : Option Cond) → AtEnd more → SpellsWhere front tree → EndsSum (front ++ more)
-unfolding after sign_of
-expression_before_where front more None end s = rw s (end_of_expression more end)
-expression_before_where front more (Some tree) end s = rw s.prefix ((refl, refl), refl)
-
--- there no comma comes either
-pub no_comma_before_where : (front more : List Lexeme) (tree : Option Cond) → AtEnd more → SpellsWhere front tree → after (Sign symbol.Comma) (front ++ more) ≡ None
-unfolding after
-no_comma_before_where front more None end s = rw s (no_comma_at_end more end)
-no_comma_before_where front more (Some tree) end s = rw s.prefix refl
+    let starts = at_end_among more end in
+    cond_before (Word (codes "where")) front more tree refl (among_begins_none behind_limit cond_goes_on more refl refl starts) (among_none (Word (codes "where")) behind_limit more refl starts) s
 
 -- what is read is a filter
 pub filter_sound : IsSound SpellsFilter filter_of
 unfolding filter_of
-filter_sound lexemes rest filter e =
-    let a = bind_some (name_of lexemes) _ (filter, rest) e in
-    let b = bind_some (where_of a.0.1) _ (filter, rest) a.2 in
-    let n = name_is lexemes a.0.1 a.0.0 a.1 in
-    let s = where_sound a.0.1 b.0.1 b.0.0 b.1 in
-    let front = Word a.0.0 ∷ s.front in
-    record {
-      front = front;
-      whole = n.0 ∙ ap (λ ls. Word a.0.0 ∷ ls) (s.whole ∙ ap (λ ls. s.front ++ ls) (same_rest b.2));
-      spelled = subst (SpellsFilter front) (same_tree b.2) (record {
-        front = Word a.0.0 ∷ [];
-        back = s.front;
-        split = refl;
-        is_left = (refl, n.1);
-        is_right = s.spelled;
-      });
-    }
+filter_sound = pair_sound IsName SpellsWhere SpellsFilter name_of where_of (λ table cond. record { table = table; cond = cond }) name_sound where_sound (λ table cond tokens s. s)
 
 -- a table and what stands behind it are read
 filter_read : (table : List ℕ) (cond : Option Cond) (lexemes more : List Lexeme) → is_reserved_name table ≡ false → where_of lexemes ≡ Some (cond, more) → filter_of (Word table ∷ lexemes) ≡ Some (record { table = table; cond = cond }, more)
