@@ -43,7 +43,7 @@ impl Production for ExtensionDefForm {
     }
 }
 
-/// TakesExactly a column of a table; `None` is for a number outside 64 bits, here and below.
+/// Takes a column of a table; `None` is for a number outside 64 bits, here and below.
 #[tactic(auto, unfolding(crate::specs::Descent::def_of))]
 fn definition(alloc: Global, reader: &mut Reader<'_>) -> Result<Option<Def>, ReadFault>
     ensures { TakesInside IsDefInside result reader.new (def_of reader.old) }
@@ -61,7 +61,7 @@ fn definition(alloc: Global, reader: &mut Reader<'_>) -> Result<Option<Def>, Rea
     }
 }
 
-/// TakesExactly a column of an extension.
+/// Takes a column of an extension.
 #[tactic(auto, unfolding(crate::specs::Descent::extension_def_of))]
 fn extension_definition(alloc: Global, reader: &mut Reader<'_>) -> Result<Option<Def>, ReadFault>
     ensures { TakesInside IsDefInside result reader.new (extension_def_of reader.old) }
@@ -78,7 +78,7 @@ fn extension_definition(alloc: Global, reader: &mut Reader<'_>) -> Result<Option
     }
 }
 
-/// TakesExactly the kind of a column.
+/// Takes the kind of a column.
 #[tactic(auto, unfolding(crate::specs::Descent::kind_of))]
 fn kind(reader: &mut Reader<'_>) -> Result<Option<DefKind>, ReadFault>
     ensures { TakesInside IsKindInside result reader.new (kind_of reader.old) }
@@ -90,7 +90,7 @@ fn kind(reader: &mut Reader<'_>) -> Result<Option<DefKind>, ReadFault>
     varchar(reader)
 }
 
-/// TakesExactly the size of a VARCHAR.
+/// Takes the size of a VARCHAR.
 #[tactic(auto, unfolding(crate::specs::Descent::varchar_of))]
 fn varchar(reader: &mut Reader<'_>) -> Result<Option<DefKind>, ReadFault>
     ensures { TakesInside IsKindInside result reader.new (varchar_of reader.old) }
@@ -101,7 +101,7 @@ fn varchar(reader: &mut Reader<'_>) -> Result<Option<DefKind>, ReadFault>
     Ok(size.map(DefKind::Varchar))
 }
 
-/// TakesExactly NOT NULL, if NOT comes next.
+/// Takes NOT NULL, if NOT comes next.
 #[tactic(auto, unfolding(crate::specs::Descent::not_null_of))]
 fn not_null(reader: &mut Reader<'_>) -> Result<bool, ReadFault>
     ensures { TakesExactly result (λ flag. (flag, reader.new)) (not_null_of reader.old) }

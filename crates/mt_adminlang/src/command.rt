@@ -8,7 +8,7 @@ use mt_reader::{ReadFault, Reader, size_of};
 use mt_tree::AdminCmd;
 use std::alloc::Global;
 
-/// TakesExactly a command that is no EXPLAIN; `None` is one with a number outside 64 bits, here and below.
+/// Takes a command that is no EXPLAIN; `None` is one with a number outside 64 bits, here and below.
 #[tactic(auto, unfolding(crate::specs::Descent::plain_command_of))]
 pub(crate) fn plain_command(
     alloc: Global,
@@ -38,7 +38,7 @@ pub(crate) fn plain_command(
     step(alloc, reader)
 }
 
-/// TakesExactly what stands behind EXTEND.
+/// Takes what stands behind EXTEND.
 #[tactic(auto, unfolding(crate::specs::Descent::extend_of))]
 fn extend(alloc: Global, reader: &mut Reader<'_>) -> Result<Option<AdminCmd>, ReadFault>
     ensures { TakesInside IsCommandInside result reader.new (extend_of reader.old) }
@@ -52,7 +52,7 @@ fn extend(alloc: Global, reader: &mut Reader<'_>) -> Result<Option<AdminCmd>, Re
     }
 }
 
-/// TakesExactly what stands behind SET.
+/// Takes what stands behind SET.
 #[tactic(auto, unfolding(crate::specs::Descent::set_quota_of))]
 fn set_quota(reader: &mut Reader<'_>) -> Result<Option<AdminCmd>, ReadFault>
     ensures { TakesInside IsCommandInside result reader.new (set_quota_of reader.old) }
@@ -67,7 +67,7 @@ fn set_quota(reader: &mut Reader<'_>) -> Result<Option<AdminCmd>, ReadFault>
     }
 }
 
-/// TakesExactly what stands behind ADVISE.
+/// Takes what stands behind ADVISE.
 #[tactic(auto, unfolding(crate::specs::Descent::advise_of))]
 fn advise(alloc: Global, reader: &mut Reader<'_>) -> Result<Option<AdminCmd>, ReadFault>
     ensures { TakesInside IsCommandInside result reader.new (advise_of reader.old) }
@@ -80,7 +80,7 @@ fn advise(alloc: Global, reader: &mut Reader<'_>) -> Result<Option<AdminCmd>, Re
     }
 }
 
-/// TakesExactly what stands behind SHOW.
+/// Takes what stands behind SHOW.
 #[tactic(auto, unfolding(crate::specs::Descent::show_fold_of))]
 fn show_fold(alloc: Global, reader: &mut Reader<'_>) -> Result<Option<AdminCmd>, ReadFault>
     ensures { TakesInside IsCommandInside result reader.new (show_fold_of reader.old) }
@@ -94,7 +94,7 @@ fn show_fold(alloc: Global, reader: &mut Reader<'_>) -> Result<Option<AdminCmd>,
     }
 }
 
-/// TakesExactly what stands behind REFOLD.
+/// Takes what stands behind REFOLD.
 #[tactic(auto, unfolding(crate::specs::Descent::refold_of))]
 fn refold(alloc: Global, reader: &mut Reader<'_>) -> Result<Option<AdminCmd>, ReadFault>
     ensures { TakesInside IsCommandInside result reader.new (refold_of reader.old) }
@@ -113,7 +113,7 @@ fn refold(alloc: Global, reader: &mut Reader<'_>) -> Result<Option<AdminCmd>, Re
     }
 }
 
-/// TakesExactly what stands behind STEP.
+/// Takes what stands behind STEP.
 #[tactic(auto, unfolding(crate::specs::Descent::step_of))]
 fn step(alloc: Global, reader: &mut Reader<'_>) -> Result<Option<AdminCmd>, ReadFault>
     ensures { TakesInside IsCommandInside result reader.new (step_of reader.old) }

@@ -19,7 +19,7 @@ pub(crate) struct TableBody {
     key: Names,
 }
 
-/// TakesExactly what stands behind CREATE; `None` is for a number outside 64 bits, here and below.
+/// Takes what stands behind CREATE; `None` is for a number outside 64 bits, here and below.
 #[tactic(auto, unfolding(crate::specs::Descent::create_of))]
 pub(crate) fn create(alloc: Global, reader: &mut Reader<'_>) -> Result<Option<AdminCmd>, ReadFault>
     ensures { TakesInside IsCommandInside result reader.new (create_of reader.old) }
@@ -34,7 +34,7 @@ pub(crate) fn create(alloc: Global, reader: &mut Reader<'_>) -> Result<Option<Ad
     tenant(reader)
 }
 
-/// TakesExactly what stands behind CREATE TABLE.
+/// Takes what stands behind CREATE TABLE.
 #[tactic(auto, unfolding(crate::specs::Descent::create_table_of))]
 fn table(alloc: Global, reader: &mut Reader<'_>) -> Result<Option<AdminCmd>, ReadFault>
     ensures { TakesInside IsCommandInside result reader.new (create_table_of reader.old) }
@@ -53,7 +53,7 @@ fn table(alloc: Global, reader: &mut Reader<'_>) -> Result<Option<AdminCmd>, Rea
     }
 }
 
-/// TakesExactly the columns of a table, and the key behind them if there is one.
+/// Takes the columns of a table, and the key behind them if there is one.
 fn body(alloc: Global, reader: &mut Reader<'_>) -> Result<Option<TableBody>, ReadFault>
     ensures { TakesInside IsBodyInside result reader.new (body_of reader.old) }
 {
@@ -67,7 +67,7 @@ fn body(alloc: Global, reader: &mut Reader<'_>) -> Result<Option<TableBody>, Rea
     }
 }
 
-/// TakesExactly what stands behind a column: the key, where PRIMARY stands behind a comma, and a key of no
+/// Takes what stands behind a column: the key, where PRIMARY stands behind a comma, and a key of no
 /// names where no comma comes. `None` is a comma in front of another column.
 #[tactic(auto, unfolding(crate::specs::Descent::next_of))]
 fn behind_column(alloc: Global, reader: &mut Reader<'_>) -> Result<Option<Names>, ReadFault>
@@ -93,7 +93,7 @@ fn with_key(columns: Option<List<Def>>, key: Names) -> Option<TableBody>
     })
 }
 
-/// TakesExactly what stands behind CREATE EXTENSION.
+/// Takes what stands behind CREATE EXTENSION.
 #[tactic(auto, unfolding(crate::specs::Descent::extension_of))]
 fn extension(alloc: Global, reader: &mut Reader<'_>) -> Result<Option<AdminCmd>, ReadFault>
     ensures { TakesInside IsCommandInside result reader.new (extension_of reader.old) }
@@ -112,7 +112,7 @@ fn extension(alloc: Global, reader: &mut Reader<'_>) -> Result<Option<AdminCmd>,
     }
 }
 
-/// TakesExactly what stands behind CREATE TENANT.
+/// Takes what stands behind CREATE TENANT.
 #[tactic(auto, unfolding(crate::specs::Descent::tenant_of))]
 fn tenant(reader: &mut Reader<'_>) -> Result<Option<AdminCmd>, ReadFault>
     ensures { TakesInside IsCommandInside result reader.new (tenant_of reader.old) }

@@ -8,7 +8,7 @@ use mt_reader::{ReadFault, Reader, size_of};
 use mt_tree::AdminCmd;
 use std::alloc::Global;
 
-/// TakesExactly a command, up to the end of the tokens or a semicolon that ends them; `None` is one with a
+/// Takes a command, up to the end of the tokens or a semicolon that ends them; `None` is one with a
 /// number outside 64 bits, here and below.
 #[tactic(auto, unfolding(crate::specs::Descent::command_of))]
 pub(crate) fn command(alloc: Global, reader: &mut Reader<'_>) -> Result<Option<AdminCmd>, ReadFault>
@@ -20,7 +20,7 @@ pub(crate) fn command(alloc: Global, reader: &mut Reader<'_>) -> Result<Option<A
     plain_command(alloc, reader)
 }
 
-/// TakesExactly what stands behind EXPLAIN.
+/// Takes what stands behind EXPLAIN.
 #[tactic(auto, unfolding(crate::specs::Descent::explain_of))]
 fn explain(alloc: Global, reader: &mut Reader<'_>) -> Result<Option<AdminCmd>, ReadFault>
     ensures { TakesInside IsCommandInside result reader.new (explain_of reader.old) }

@@ -8,7 +8,7 @@ use mt_reader::{Production, ReadFault, Reader, separated};
 use mt_tree::{ChunkText, FoldText};
 use std::alloc::Global;
 
-/// TakesExactly a fold.
+/// Takes a fold.
 #[tactic(auto, unfolding(crate::specs::Descent::fold_of))]
 pub(crate) fn fold(alloc: Global, reader: &mut Reader<'_>) -> Result<FoldText, ReadFault>
     ensures { TakesExactly result (λ fold. (fold, reader.new)) (fold_of reader.old) }
@@ -23,7 +23,7 @@ pub(crate) fn fold(alloc: Global, reader: &mut Reader<'_>) -> Result<FoldText, R
     })
 }
 
-/// TakesExactly what stands behind CONV.
+/// Takes what stands behind CONV.
 #[tactic(auto, unfolding(crate::specs::Descent::conv_of))]
 fn with_conv(alloc: Global, reader: &mut Reader<'_>) -> Result<FoldText, ReadFault>
     ensures { TakesExactly result (λ fold. (fold, reader.new)) (conv_of reader.old) }
@@ -33,7 +33,7 @@ fn with_conv(alloc: Global, reader: &mut Reader<'_>) -> Result<FoldText, ReadFau
     Ok(FoldText { conv, chunks })
 }
 
-/// TakesExactly chunks behind a comma, if a comma comes next.
+/// Takes chunks behind a comma, if a comma comes next.
 #[tactic(auto, unfolding(crate::specs::Descent::more_chunks_of))]
 fn more_chunks(alloc: Global, reader: &mut Reader<'_>) -> Result<List<ChunkText>, ReadFault>
     ensures { TakesExactly result (λ chunks. (chunks, reader.new)) (more_chunks_of reader.old) }
@@ -44,7 +44,7 @@ fn more_chunks(alloc: Global, reader: &mut Reader<'_>) -> Result<List<ChunkText>
     chunks(alloc, reader)
 }
 
-/// TakesExactly chunks with commas between.
+/// Takes chunks with commas between.
 #[tactic(auto, unfolding(crate::specs::Descent::chunks_of))]
 fn chunks(alloc: Global, reader: &mut Reader<'_>) -> Result<List<ChunkText>, ReadFault>
     ensures { TakesExactly result (λ chunks. (chunks, reader.new)) (chunks_of reader.old) }
@@ -72,7 +72,7 @@ impl Production for ChunkForm {
     }
 }
 
-/// TakesExactly a chunk.
+/// Takes a chunk.
 #[tactic(auto, unfolding(crate::specs::Descent::chunk_of))]
 fn chunk(alloc: Global, reader: &mut Reader<'_>) -> Result<ChunkText, ReadFault>
     ensures { TakesExactly result (λ chunk. (chunk, reader.new)) (chunk_of reader.old) }
@@ -82,7 +82,7 @@ fn chunk(alloc: Global, reader: &mut Reader<'_>) -> Result<ChunkText, ReadFault>
     Ok(ChunkText { shape, columns })
 }
 
-/// TakesExactly the word of a shape.
+/// Takes the word of a shape.
 #[tactic(auto, unfolding(crate::specs::Descent::shape_of))]
 fn shape(reader: &mut Reader<'_>) -> Result<u8, ReadFault>
     ensures { TakesExactly result (λ shape. (shape, reader.new)) (shape_of reader.old) }

@@ -5,7 +5,7 @@ use mt_reader::{NameForm, ReadFault, Reader, bracketed};
 use mt_tree::Names;
 use std::alloc::Global;
 
-/// TakesExactly names in brackets, with commas between.
+/// Takes names in brackets, with commas between.
 pub(crate) fn names(alloc: Global, reader: &mut Reader<'_>) -> Result<Names, ReadFault>
     ensures { TakesExactly result (λ names. (names, reader.new)) (names_of reader.old) }
 {

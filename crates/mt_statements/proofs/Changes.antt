@@ -1,5 +1,5 @@
 -- Statements that change rows: what is read is spelled so, and what is spelled so is read.
-use Rattle.std.proofs.Common.{◌≡◌, Option, Some, None, List, [], ◌∷◌, ◌++◌, refl, sym, ap, ◌∙◌, subst, append_assoc}
+use Rattle.std.proofs.Common.{◌≡◌, Some, None, List, [], ◌∷◌, ◌++◌, refl, sym, ap, ◌∙◌, subst, append_assoc}
 use Rattle.std.specs.Prelude.{codes}
 use Rattle.mt_lexer.specs.Tokens.{Lexeme, Word}
 use Rattle.mt_tree.specs.declared.statement.Filter.{Filter}
@@ -8,10 +8,11 @@ use Rattle.mt_tree.specs.declared.statement.Stmt.TheVariants as stmt
 use Rattle.mt_reader.specs.Descent.{after}
 use Rattle.mt_reader.specs.Forms.{Behind}
 use Rattle.mt_reader.specs.Fronts.{Begins, AtEnd}
+use Rattle.mt_reader.proofs.Eithers.{either_some}
 use Rattle.mt_reader.proofs.Shrinking.{bind_some, same_tree, same_rest}
 use Rattle.mt_reader.proofs.Spelling.{IsSound, IsCompleteBefore, after_is}
 use Rattle.mt_statements.specs.Change.{SpellsFilter, SpellsChange}
-use Rattle.mt_statements.specs.ChangeDescent.{filter_of, filtered_of, restore_behind, delete_behind, update_behind, insert_behind, change_of}
+use Rattle.mt_statements.specs.ChangeDescent.{filter_of, update_of, insert_of, filtered_of, delete_of, change_of}
 use Rattle.mt_statements.proofs.Assignments.{update_sound, update_complete}
 use Rattle.mt_statements.proofs.Filters.{filter_sound, filter_complete}
 use Rattle.mt_statements.proofs.Inserts.{insert_sound, insert_complete}
@@ -31,26 +32,16 @@ filtered_sound words change spelled lexemes left rest statement h e =
 -- what is read is a statement that changes rows
 pub change_sound : IsSound SpellsChange change_of
 unfolding change_of
-change_sound lexemes rest statement e = by_insert (after (Word (codes "insert")) lexemes) refl e where
-  by_restore : (found : Option (List Lexeme)) → after (Word (codes "restore")) lexemes ≡ found → restore_behind found lexemes ≡ Some (statement, rest) → Begins SpellsChange lexemes rest statement
-  by_restore (Some left) a e = filtered_sound (Word (codes "restore") ∷ []) stmt.Restore (λ tokens filter s. s) lexemes left rest statement (after_is _ lexemes left a) e
-  by_restore None a e =
-      let p = bind_some (after (Word (codes "purge")) lexemes) _ (statement, rest) e in
-      filtered_sound (Word (codes "purge") ∷ []) stmt.Purge (λ tokens filter s. s) lexemes p.0 rest statement (after_is _ lexemes p.0 p.1) p.2
-
-  by_delete : (found : Option (List Lexeme)) → after (Word (codes "delete")) lexemes ≡ found → delete_behind found lexemes ≡ Some (statement, rest) → Begins SpellsChange lexemes rest statement
-  by_delete (Some left) a e =
-      let p = bind_some (after (Word (codes "from")) left) _ (statement, rest) e in
-      filtered_sound (Word (codes "delete") ∷ Word (codes "from") ∷ []) stmt.Delete (λ tokens filter s. s) lexemes p.0 rest statement (after_is _ lexemes left a ∙ ap (λ ls. Word (codes "delete") ∷ ls) (after_is _ left p.0 p.1)) p.2
-  by_delete None a e = by_restore (after (Word (codes "restore")) lexemes) refl e
-
-  by_update : (found : Option (List Lexeme)) → after (Word (codes "update")) lexemes ≡ found → update_behind found lexemes ≡ Some (statement, rest) → Begins SpellsChange lexemes rest statement
-  by_update (Some left) a e = update_sound lexemes left rest statement (after_is _ lexemes left a) e
-  by_update None a e = by_delete (after (Word (codes "delete")) lexemes) refl e
-
-  by_insert : (found : Option (List Lexeme)) → after (Word (codes "insert")) lexemes ≡ found → insert_behind found lexemes ≡ Some (statement, rest) → Begins SpellsChange lexemes rest statement
-  by_insert (Some left) a e = insert_sound lexemes left rest statement (after_is _ lexemes left a) e
-  by_insert None a e = by_update (after (Word (codes "update")) lexemes) refl e
+change_sound lexemes rest statement e =
+    either_some (after (Word (codes "insert")) lexemes) insert_of _ (statement, rest) (λ left a e. insert_sound lexemes left rest statement (after_is _ lexemes left a) e)
+    (λ e. either_some (after (Word (codes "update")) lexemes) update_of _ (statement, rest) (λ left a e. update_sound lexemes left rest statement (after_is _ lexemes left a) e)
+    (λ e. either_some (after (Word (codes "delete")) lexemes) delete_of _ (statement, rest) by_delete
+    (λ e. either_some (after (Word (codes "restore")) lexemes) (filtered_of stmt.Restore) _ (statement, rest) (λ left a e. filtered_sound (Word (codes "restore") ∷ []) stmt.Restore (λ tokens filter s. s) lexemes left rest statement (after_is _ lexemes left a) e)
+    (λ e. let p = bind_some (after (Word (codes "purge")) lexemes) (filtered_of stmt.Purge) (statement, rest) e in filtered_sound (Word (codes "purge") ∷ []) stmt.Purge (λ tokens filter s. s) lexemes p.0 rest statement (after_is _ lexemes p.0 p.1) p.2) e) e) e) e where
+      by_delete : (left : List Lexeme) → after (Word (codes "delete")) lexemes ≡ Some left → delete_of left ≡ Some (statement, rest) → Begins SpellsChange lexemes rest statement
+      by_delete left a e =
+          let p = bind_some (after (Word (codes "from")) left) (filtered_of stmt.Delete) (statement, rest) e in
+          filtered_sound (Word (codes "delete") ∷ Word (codes "from") ∷ []) stmt.Delete (λ tokens filter s. s) lexemes p.0 rest statement (after_is _ lexemes left a ∙ ap (λ ls. Word (codes "delete") ∷ ls) (after_is _ left p.0 p.1)) p.2
 
 -- a DELETE is read
 delete_read : (lexemes more : List Lexeme) (filter : Filter) → filter_of lexemes ≡ Some (filter, more) → change_of (Word (codes "delete") ∷ Word (codes "from") ∷ lexemes) ≡ Some (stmt.Delete filter, more)

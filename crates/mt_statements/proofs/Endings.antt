@@ -5,9 +5,10 @@ use Rattle.std.specs.Prelude.{codes}
 use Rattle.mt_lexer.specs.declared.token.Symbol.TheVariants as symbol
 use Rattle.mt_lexer.specs.Tokens.{Lexeme, Word, Number, Sign}
 use Rattle.mt_tree.specs.declared.expression.Cond.{Cond}
-use Rattle.mt_reader.specs.Descent.{is_same, after, number_of, separated_of, maybe_of}
+use Rattle.mt_reader.specs.Descent.{is_same, after, either, number_of, separated_of, maybe_of}
 use Rattle.mt_reader.specs.Forms.{Form, Commas}
 use Rattle.mt_reader.specs.Fronts.{Begins, BeginsWithNone, AtEnd}
+use Rattle.mt_reader.proofs.Eithers.{either_some}
 use Rattle.mt_reader.proofs.Maybes.{MaybeBehind, maybe_sound, maybe_complete}
 use Rattle.mt_reader.proofs.Shrinking.{bind_some, same_tree, same_rest}
 use Rattle.mt_reader.proofs.Spelling.{IsSound, IsComplete, IsCompleteBefore, Shrinks, after_is, after_same, number_is, separated_sound, separated_complete_before}
@@ -19,7 +20,7 @@ use Rattle.mt_terms.proofs.Atoms.{column_sound, column_shrinks}
 use Rattle.mt_terms.proofs.Conditions.{cond_sound}
 use Rattle.mt_terms.proofs.Follow.{column_follows, cond_follows}
 use Rattle.mt_statements.specs.declared.clauses.Clauses.{Clauses}
-use Rattle.mt_statements.specs.QueryDescent.{listed_of, listed_behind, key_of, clauses_of}
+use Rattle.mt_statements.specs.QueryDescent.{listed_of, by_items_of, key_of, clauses_of}
 use Rattle.mt_statements.specs.Query.{SpellsKey, SpellsNumber}
 use Rattle.mt_statements.proofs.Keys.{behind_key, key_sound, key_complete, key_shrinks}
 use Rattle.mt_statements.proofs.Starts.{StartsAmong, MaybeListed, behind_limit, behind_order, behind_having, behind_group, behind_where, behind_refs, among_none, among_begins_none, among_maybe, among_listed, at_end_among}
@@ -30,14 +31,13 @@ module _ {T : Type 0} (form : Form T) (item : List Lexeme → Option (T × List 
   -- what is read is spelled so
   pub listed_sound : IsSound form item → IsSound (MaybeListed form word) (listed_of item word)
   unfolding listed_of
-  listed_sound sound lexemes rest trees e = by_word (after word lexemes) refl e where
+  listed_sound sound lexemes rest trees e = either_some (after word lexemes) (by_items_of item) _ (trees, rest) listed none e where
     as_listed : (front : List Lexeme) (trees : List T) → Commas form front trees → MaybeListed form word (word ∷ Word (codes "by") ∷ front) trees
     as_listed front [] s = elim s [ ]
     as_listed front (x ∷ xs) s = record { inner = front; prefix = refl; body = s }
 
-    by_word : (found : Option (List Lexeme)) → after word lexemes ≡ found → listed_behind item found lexemes ≡ Some (trees, rest) → Begins (MaybeListed form word) lexemes rest trees
-    by_word None a e = record { front = []; whole = same_rest e; spelled = subst (MaybeListed form word []) (same_tree e) refl }
-    by_word (Some left) a e =
+    listed : (left : List Lexeme) → after word lexemes ≡ Some left → by_items_of item left ≡ Some (trees, rest) → Begins (MaybeListed form word) lexemes rest trees
+    listed left a e =
         let p = bind_some (after (Word (codes "by")) left) _ (trees, rest) e in
         let s = separated_sound form item (Sign symbol.Comma) sound p.0 rest trees p.2 in
         record {
@@ -46,15 +46,18 @@ module _ {T : Type 0} (form : Form T) (item : List Lexeme → Option (T × List 
           spelled = as_listed s.front trees s.spelled;
         }
 
+    none : ◌≡◌ {A = Option (List T × List Lexeme)} (Some ([], lexemes)) (Some (trees, rest)) → Begins (MaybeListed form word) lexemes rest trees
+    none e = record { front = []; whole = same_rest e; spelled = subst (MaybeListed form word []) (same_tree e) refl }
+
   -- what is spelled so is read, where no other item follows
   pub listed_complete : (ends : List Lexeme → Type 0) → is_same word word ≡ true → ((rest : List Lexeme) → ends (Sign symbol.Comma ∷ rest)) → IsCompleteBefore form ends item → Shrinks item → (front more : List Lexeme) (trees : List T) → ends more → after (Sign symbol.Comma) more ≡ None → after word more ≡ None → MaybeListed form word front trees → listed_of item word (front ++ more) ≡ Some (trees, more)
   unfolding listed_of
   listed_complete ends same goes_on complete shrinks front more [] end comma none s =
-      ap (λ ls. listed_behind item (after word (ls ++ more)) (ls ++ more)) s ∙ ap (λ found. listed_behind item found more) none
+      ap (λ ls. listed_of item word (ls ++ more)) s ∙ ap (λ found. either found (by_items_of item) (Some ([], more))) none
   listed_complete ends same goes_on complete shrinks front more (x ∷ xs) end comma none s =
       let rest = s.inner ++ more in
-      ap (λ ls. listed_behind item (after word (ls ++ more)) (ls ++ more)) s.prefix
-      ∙ ap (λ found. listed_behind item found (word ∷ Word (codes "by") ∷ rest)) (after_same word (Word (codes "by") ∷ rest) same)
+      ap (λ ls. listed_of item word (ls ++ more)) s.prefix
+      ∙ ap (λ found. either found (by_items_of item) (Some ([], word ∷ Word (codes "by") ∷ rest))) (after_same word (Word (codes "by") ∷ rest) same)
       ∙ ap (option_and_then (λ by. separated_of item (Sign symbol.Comma) by)) (after_same (Word (codes "by")) rest refl)
       ∙ separated_complete_before form item (Sign symbol.Comma) ends refl goes_on complete shrinks s.inner more (x ∷ xs) end comma s.body
 

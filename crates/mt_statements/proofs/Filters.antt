@@ -1,5 +1,5 @@
 -- A table and perhaps a condition: what is read is spelled so, and what is spelled so is read.
-use Rattle.std.proofs.Common.{◌≡◌, ℕ, false, Option, Some, None, List, [], ◌∷◌, ◌++◌, refl, ap, ◌∙◌, subst, inl, inr}
+use Rattle.std.proofs.Common.{◌≡◌, ℕ, false, Option, Some, None, List, ◌∷◌, ◌++◌, refl, ap, ◌∙◌, inl, inr}
 use Rattle.std.specs.Prelude.{codes}
 use Rattle.mt_lexer.specs.declared.token.Symbol.TheVariants as symbol
 use Rattle.mt_lexer.specs.Tokens.{Lexeme, Word, Sign}
@@ -7,15 +7,17 @@ use Rattle.mt_tree.specs.declared.expression.Cond.{Cond}
 use Rattle.mt_reader.specs.Descent.{after, name_of, maybe_of}
 use Rattle.mt_lexer.specs.Reserved.{is_reserved_name}
 use Rattle.mt_reader.specs.Fronts.{AtEnd}
+use Rattle.mt_reader.specs.Names.{IsName}
 use Rattle.mt_reader.proofs.Maybes.{maybe_sound, maybe_complete}
-use Rattle.mt_reader.proofs.Shrinking.{bind_some, same_tree, same_rest}
-use Rattle.mt_reader.proofs.Spelling.{IsSound, IsCompleteBefore, name_is}
+use Rattle.mt_reader.proofs.Parts.{name_sound}
+use Rattle.mt_reader.proofs.Spelling.{IsSound, IsCompleteBefore}
 use Rattle.mt_terms.specs.Condition.{SpellsCond, SpellsWhere}
 use Rattle.mt_terms.specs.Descent.{cond_of, sign_of}
 use Rattle.mt_terms.proofs.Conditions.{EndsOr, cond_sound, cond_complete}
 use Rattle.mt_terms.proofs.Expressions.{EndsSum}
 use Rattle.mt_statements.specs.Change.{SpellsFilter}
 use Rattle.mt_statements.specs.ChangeDescent.{filter_of}
+use Rattle.mt_statements.proofs.Pairs.{pair_sound}
 
 -- what reads perhaps a condition behind WHERE
 abbrev pub where_of : List Lexeme → Option (Option Cond × List Lexeme)
@@ -65,23 +67,7 @@ no_comma_before_where front more (Some tree) end s = rw s.prefix refl
 -- what is read is a filter
 pub filter_sound : IsSound SpellsFilter filter_of
 unfolding filter_of
-filter_sound lexemes rest filter e =
-    let a = bind_some (name_of lexemes) _ (filter, rest) e in
-    let b = bind_some (where_of a.0.1) _ (filter, rest) a.2 in
-    let n = name_is lexemes a.0.1 a.0.0 a.1 in
-    let s = where_sound a.0.1 b.0.1 b.0.0 b.1 in
-    let front = Word a.0.0 ∷ s.front in
-    record {
-      front = front;
-      whole = n.0 ∙ ap (λ ls. Word a.0.0 ∷ ls) (s.whole ∙ ap (λ ls. s.front ++ ls) (same_rest b.2));
-      spelled = subst (SpellsFilter front) (same_tree b.2) (record {
-        front = Word a.0.0 ∷ [];
-        back = s.front;
-        split = refl;
-        is_left = (refl, n.1);
-        is_right = s.spelled;
-      });
-    }
+filter_sound = pair_sound IsName SpellsWhere SpellsFilter name_of where_of (λ table cond. record { table = table; cond = cond }) name_sound where_sound (λ table cond tokens s. s)
 
 -- a table and what stands behind it are read
 filter_read : (table : List ℕ) (cond : Option Cond) (lexemes more : List Lexeme) → is_reserved_name table ≡ false → where_of lexemes ≡ Some (cond, more) → filter_of (Word table ∷ lexemes) ≡ Some (record { table = table; cond = cond }, more)

@@ -7,7 +7,7 @@ use Rattle.mt_tree.specs.declared.expression.Literal.{Literal}
 use Rattle.mt_tree.specs.declared.statement.Insert.{Insert}
 use Rattle.mt_tree.specs.declared.statement.Stmt.{Stmt}
 use Rattle.mt_tree.specs.declared.statement.Stmt.TheVariants as stmt
-use Rattle.mt_reader.specs.Descent.{after, name_of, literal_of, separated_of}
+use Rattle.mt_reader.specs.Descent.{after, either, name_of, literal_of, separated_of, closed_of}
 use Rattle.mt_lexer.specs.Reserved.{is_reserved_name}
 use Rattle.mt_reader.specs.Forms.{Commas, MaybeList, Separated}
 use Rattle.mt_reader.specs.Fronts.{Begins, AtEnd}
@@ -15,10 +15,11 @@ use Rattle.mt_reader.specs.Literals.{SpellsLiteral}
 use Rattle.mt_reader.specs.Names.{IsName, SpellsNames}
 use Rattle.mt_reader.proofs.Parts.{name_sound, name_complete, literal_sound, literal_complete}
 use Rattle.mt_reader.proofs.Bracketing.{no_comma_close, brackets_append, closed_sound, closed_read, items_in_brackets_sound, items_in_brackets_complete, items_in_brackets_shrink}
+use Rattle.mt_reader.proofs.Eithers.{either_some}
 use Rattle.mt_reader.proofs.Shrinking.{bind_some, same_tree, same_rest, name_shrinks, literal_shrinks}
 use Rattle.mt_reader.proofs.Spelling.{IsSound, IsComplete, Shrinks, after_is, name_is, separated_sound, separated_complete}
 use Rattle.mt_statements.specs.Change.{SpellsTuple, SpellsInsert, SpellsChange}
-use Rattle.mt_statements.specs.ChangeDescent.{tuple_of, few_tuples_of, columns_behind, columns_of, insert_of, change_of}
+use Rattle.mt_statements.specs.ChangeDescent.{tuple_of, few_tuples_of, columns_of, insert_of, change_of}
 use Rattle.mt_statements.proofs.Counted.{at_most_some, at_most_few}
 use Rattle.mt_statements.proofs.Filters.{no_comma_at_end}
 
@@ -67,25 +68,24 @@ SpellsColumns tokens columns = MaybeList SpellsNames tokens columns
 -- what is read are names in brackets, or nothing
 columns_sound : IsSound SpellsColumns columns_of
 unfolding columns_of
-columns_sound lexemes rest columns e = by_open (after (Sign symbol.Open) lexemes) refl e where
+columns_sound lexemes rest columns e = either_some (after (Sign symbol.Open) lexemes) (closed_of (separated_of name_of (Sign symbol.Comma))) _ (columns, rest) by_open none e where
   as_columns : (front : List Lexeme) (columns : List (List ℕ)) → SpellsNames front columns → SpellsColumns front columns
   as_columns front [] s = elim s.body [ ]
   as_columns front (c ∷ cs) s = s
 
-  by_open : (found : Option (List Lexeme)) → after (Sign symbol.Open) lexemes ≡ found → columns_behind found lexemes ≡ Some (columns, rest) → Begins SpellsColumns lexemes rest columns
-  by_open None o e = record {
-    front = [];
-    whole = same_rest e;
-    spelled = subst (SpellsColumns []) (same_tree e) refl;
-  }
-  by_open (Some left) o e =
+  by_open : (left : List Lexeme) → after (Sign symbol.Open) lexemes ≡ Some left → closed_of (separated_of name_of (Sign symbol.Comma)) left ≡ Some (columns, rest) → Begins SpellsColumns lexemes rest columns
+  by_open left o e =
       let s = closed_sound (Commas IsName) (separated_of name_of (Sign symbol.Comma)) (separated_sound IsName name_of (Sign symbol.Comma) name_sound) lexemes left rest columns (after_is _ lexemes left o) e in
       record { front = s.front; whole = s.whole; spelled = as_columns s.front columns s.spelled }
+
+  none : ◌≡◌ {A = Option (List (List ℕ) × List Lexeme)} (Some ([], lexemes)) (Some (columns, rest)) → Begins SpellsColumns lexemes rest columns
+  none e = record { front = []; whole = same_rest e; spelled = subst (SpellsColumns []) (same_tree e) refl }
 
 -- names in brackets are read, and so is nothing where no bracket opens
 columns_complete : (front more : List Lexeme) (columns : List (List ℕ)) → after (Sign symbol.Open) more ≡ None → SpellsColumns front columns → columns_of (front ++ more) ≡ Some (columns, more)
 unfolding columns_of after
-columns_complete front more [] none s = ap (λ ls. columns_of (ls ++ more)) s ∙ ap (λ found. columns_behind found more) none
+columns_complete front more [] none s =
+    ap (λ ls. columns_of (ls ++ more)) s ∙ ap (λ found. either found (closed_of (separated_of name_of (Sign symbol.Comma))) (Some ([], more))) none
 columns_complete front more (c ∷ cs) none s =
     let read = separated_complete IsName name_of (Sign symbol.Comma) refl name_complete name_shrinks s.inner (Sign symbol.Close ∷ more) (c ∷ cs) (no_comma_close more) s.body in
     ap (λ ls. columns_of (ls ++ more)) s.brackets

@@ -1,5 +1,5 @@
 -- Keys of ORDER BY: what is read is spelled so, and what is spelled so is read.
-use Rattle.std.proofs.Common.{◌≡◌, ℕ, ◌<◌, Bool, true, false, Option, Some, None, List, [], ◌∷◌, ◌++◌, length, refl, sym, ap, ◌∙◌, subst, append_assoc, length-append, inl, inr, arith}
+use Rattle.std.proofs.Common.{◌≡◌, ℕ, ◌<◌, Bool, true, false, Option, Some, List, [], ◌∷◌, ◌++◌, length, refl, ap, ◌∙◌, subst, append_assoc, length-append, inl, inr, arith}
 use Rattle.std.specs.Option.{option_and_then}
 use Rattle.std.specs.Prelude.{codes}
 use Rattle.mt_lexer.specs.declared.token.Symbol.TheVariants as symbol
@@ -8,12 +8,15 @@ use Rattle.mt_tree.specs.declared.statement.OrderKey.{OrderKey}
 use Rattle.mt_tree.specs.declared.statement.OrderBy.{OrderBy}
 use Rattle.mt_tree.specs.declared.statement.OrderBy.TheVariants.{Name, Position}
 use Rattle.mt_reader.specs.Descent.{after, name_of, number_of, begins_with_word}
+use Rattle.mt_reader.specs.Forms.{word}
 use Rattle.mt_reader.specs.Fronts.{Begins}
+use Rattle.mt_reader.proofs.Eithers.{either_some}
 use Rattle.mt_reader.proofs.Parts.{name_complete}
 use Rattle.mt_reader.proofs.Shrinking.{bind_some, same_tree, same_rest}
 use Rattle.mt_reader.proofs.Spelling.{IsSound, IsComplete, IsCompleteBefore, Shrinks, after_is, name_is, number_is, sound_shrinks}
-use Rattle.mt_statements.specs.QueryDescent.{by_of, by_behind, direction_of, desc_behind, asc_behind, key_of}
+use Rattle.mt_statements.specs.QueryDescent.{by_of, by_behind, direction_of, key_of}
 use Rattle.mt_statements.specs.Query.{SpellsBy, SpellsDirection, SpellsKey}
+use Rattle.mt_statements.proofs.Pairs.{pair_sound}
 use Rattle.mt_statements.proofs.Starts.{StartsAmong, behind_order, among_none}
 
 -- what is read as a name or a number is one
@@ -48,22 +51,18 @@ by_complete front more (Position n) s = rw s refl
 -- what is read as a direction is one
 direction_sound : IsSound SpellsDirection direction_of
 unfolding direction_of
-direction_sound lexemes rest desc e = by_desc (after (Word (codes "desc")) lexemes) refl e where
-  by_asc : (found : Option (List Lexeme)) → after (Word (codes "asc")) lexemes ≡ found → asc_behind found lexemes ≡ Some (desc, rest) → Begins SpellsDirection lexemes rest desc
-  by_asc None a e = record { front = []; whole = same_rest e; spelled = subst (SpellsDirection []) (same_tree e) (inl refl) }
-  by_asc (Some left) a e = record {
-    front = Word (codes "asc") ∷ [];
-    whole = after_is _ lexemes left a ∙ ap (λ ls. Word (codes "asc") ∷ ls) (same_rest e);
-    spelled = subst (SpellsDirection (Word (codes "asc") ∷ [])) (same_tree e) (inr refl);
-  }
+direction_sound lexemes rest desc e =
+    either_some (after (Word (codes "desc")) lexemes) (λ left. Some (true, left)) _ (desc, rest) (λ left a e. written (codes "desc") true refl left a e)
+    (λ e. either_some (after (Word (codes "asc")) lexemes) (λ left. Some (false, left)) _ (desc, rest) (λ left a e. written (codes "asc") false (inr refl) left a e) none e) e where
+      written : (name : List ℕ) (found : Bool) → SpellsDirection (word name) found → (left : List Lexeme) → after (Word name) lexemes ≡ Some left → ◌≡◌ {A = Option (Bool × List Lexeme)} (Some (found, left)) (Some (desc, rest)) → Begins SpellsDirection lexemes rest desc
+      written name found s left a e = record {
+        front = word name;
+        whole = after_is _ lexemes left a ∙ ap (λ ls. Word name ∷ ls) (same_rest e);
+        spelled = subst (SpellsDirection (word name)) (same_tree e) s;
+      }
 
-  by_desc : (found : Option (List Lexeme)) → after (Word (codes "desc")) lexemes ≡ found → desc_behind found lexemes ≡ Some (desc, rest) → Begins SpellsDirection lexemes rest desc
-  by_desc None a e = by_asc (after (Word (codes "asc")) lexemes) refl e
-  by_desc (Some left) a e = record {
-    front = Word (codes "desc") ∷ [];
-    whole = after_is _ lexemes left a ∙ ap (λ ls. Word (codes "desc") ∷ ls) (same_rest e);
-    spelled = subst (SpellsDirection (Word (codes "desc") ∷ [])) (same_tree e) refl;
-  }
+      none : ◌≡◌ {A = Option (Bool × List Lexeme)} (Some (false, lexemes)) (Some (desc, rest)) → Begins SpellsDirection lexemes rest desc
+      none e = record { front = []; whole = same_rest e; spelled = subst (SpellsDirection []) (same_tree e) (inl refl) }
 
 -- the starts of what may stand behind each key
 abbrev pub behind_key : List Lexeme
@@ -73,8 +72,7 @@ behind_key = Sign symbol.Comma ∷ behind_order
 no_direction : (more : List Lexeme) → StartsAmong behind_key more → direction_of more ≡ Some (false, more)
 unfolding direction_of
 no_direction more end =
-    ap (λ found. desc_behind found more) (among_none (Word (codes "desc")) behind_key more refl end)
-    ∙ ap (λ found. asc_behind found more) (among_none (Word (codes "asc")) behind_key more refl end)
+    rw (among_none (Word (codes "desc")) behind_key more refl end, among_none (Word (codes "asc")) behind_key more refl end) refl
 
 -- a direction is read
 direction_complete : IsCompleteBefore SpellsDirection (StartsAmong behind_key) direction_of
@@ -88,17 +86,7 @@ direction_complete front more false end s = elim s [
 -- what is read as a key is one
 pub key_sound : IsSound SpellsKey key_of
 unfolding key_of
-key_sound lexemes rest key e =
-    let a = bind_some (by_of lexemes) _ (key, rest) e in
-    let b = bind_some (direction_of a.0.1) _ (key, rest) a.2 in
-    let s = by_sound lexemes a.0.1 a.0.0 a.1 in
-    let d = direction_sound a.0.1 b.0.1 b.0.0 b.1 in
-    let front = s.front ++ d.front in
-    record {
-      front = front;
-      whole = s.whole ∙ ap (λ ls. s.front ++ ls) (d.whole ∙ ap (λ ls. d.front ++ ls) (same_rest b.2)) ∙ sym (append_assoc s.front d.front rest);
-      spelled = subst (SpellsKey front) (same_tree b.2) (record { front = s.front; back = d.front; split = refl; is_left = s.spelled; is_right = d.spelled });
-    }
+key_sound = pair_sound SpellsBy SpellsDirection SpellsKey by_of direction_of (λ by desc. record { by = by; desc = desc }) by_sound direction_sound (λ by desc tokens s. s)
 
 -- a key is read
 pub key_complete : IsCompleteBefore SpellsKey (StartsAmong behind_key) key_of

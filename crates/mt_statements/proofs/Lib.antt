@@ -1,6 +1,7 @@
 pub mod Endings
 pub mod Keys
 pub mod Outputs
+pub mod Pairs
 pub mod Refs
 pub mod Selects
 pub mod Starts

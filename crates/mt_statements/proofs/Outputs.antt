@@ -4,21 +4,24 @@ use Rattle.std.specs.Prelude.{codes}
 use Rattle.mt_lexer.specs.declared.token.Symbol.TheVariants as symbol
 use Rattle.mt_lexer.specs.Tokens.{Lexeme, Word, Sign}
 use Rattle.mt_tree.specs.declared.statement.Item.{Item}
-use Rattle.mt_reader.specs.Descent.{after, name_of, literal_of, separated_of, joined_of}
+use Rattle.mt_reader.specs.Descent.{after, either, name_of, literal_of, separated_of, joined_of}
 use Rattle.mt_reader.specs.Forms.{Commas}
 use Rattle.mt_reader.specs.Fronts.{Begins}
 use Rattle.mt_reader.specs.Names.{IsName}
+use Rattle.mt_reader.proofs.Eithers.{either_some}
 use Rattle.mt_reader.proofs.Fronts.{none_after}
 use Rattle.mt_reader.proofs.Maybes.{MaybeBehind, maybe_sound, maybe_complete}
 use Rattle.mt_reader.proofs.Parts.{name_sound, name_complete}
-use Rattle.mt_reader.proofs.Shrinking.{bind_some, same_tree, same_rest}
+use Rattle.mt_reader.proofs.Shrinking.{same_tree, same_rest}
 use Rattle.mt_reader.proofs.Spelling.{IsSound, IsCompleteBefore, Shrinks, after_is, sound_shrinks, separated_sound, separated_complete_before}
 use Rattle.mt_terms.specs.Descent.{literal_atom_of, atom_of, alone_of, factor_of, term_of, terms_of, sum_of, expr_of}
+use Rattle.mt_terms.specs.Expression.{SpellsExpr}
 use Rattle.mt_terms.specs.Follow.{expr_goes_on}
 use Rattle.mt_terms.proofs.Expressions.{expr_sound, expr_nonempty}
 use Rattle.mt_terms.proofs.Follow.{expr_follows}
-use Rattle.mt_statements.specs.QueryDescent.{as_name_of, item_of, select_items_of, star_behind}
+use Rattle.mt_statements.specs.QueryDescent.{as_name_of, item_of, select_items_of}
 use Rattle.mt_statements.specs.Query.{SpellsItem, SpellsItems}
+use Rattle.mt_statements.proofs.Pairs.{pair_sound}
 use Rattle.mt_statements.proofs.Starts.{StartsAmong, among_none, among_begins_none, among_maybe}
 
 -- perhaps AS and a name
@@ -40,17 +43,7 @@ as_name_complete front more name none s = maybe_complete IsName name_of (Word (c
 -- what is read as an item is one
 pub item_sound : IsSound SpellsItem item_of
 unfolding item_of
-item_sound lexemes rest item e =
-    let a = bind_some (expr_of lexemes) _ (item, rest) e in
-    let b = bind_some (as_name_of a.0.1) _ (item, rest) a.2 in
-    let s = expr_sound lexemes a.0.1 a.0.0 a.1 in
-    let n = as_name_sound a.0.1 b.0.1 b.0.0 b.1 in
-    let front = s.front ++ n.front in
-    record {
-      front = front;
-      whole = s.whole ∙ ap (λ ls. s.front ++ ls) (n.whole ∙ ap (λ ls. n.front ++ ls) (same_rest b.2)) ∙ sym (append_assoc s.front n.front rest);
-      spelled = subst (SpellsItem front) (same_tree b.2) (record { front = s.front; back = n.front; split = refl; is_left = s.spelled; is_right = n.spelled });
-    }
+item_sound = pair_sound SpellsExpr SpellsAsName SpellsItem expr_of as_name_of (λ expr name. record { expr = expr; name = name }) expr_sound as_name_sound (λ expr name tokens s. s)
 
 -- an item has a lexeme at least
 item_nonempty : (front : List Lexeme) (item : Item) → SpellsItem front item → 0 < length front
@@ -81,18 +74,20 @@ item_complete front more item end s =
 -- what is read as items is the star or items
 pub items_sound : IsSound SpellsItems select_items_of
 unfolding select_items_of
-items_sound lexemes rest items e = by_star (after (Sign symbol.Star) lexemes) refl e where
+items_sound lexemes rest items e = either_some (after (Sign symbol.Star) lexemes) (λ left. Some ([], left)) _ (items, rest) by_star by_items e where
   as_items : (front : List Lexeme) (items : List Item) → Commas SpellsItem front items → SpellsItems front items
   as_items front [] s = elim s [ ]
   as_items front (x ∷ xs) s = s
 
-  by_star : (star : Option (List Lexeme)) → after (Sign symbol.Star) lexemes ≡ star → star_behind star lexemes ≡ Some (items, rest) → Begins SpellsItems lexemes rest items
-  by_star (Some left) a e = record {
+  by_star : (left : List Lexeme) → after (Sign symbol.Star) lexemes ≡ Some left → ◌≡◌ {A = Option (List Item × List Lexeme)} (Some ([], left)) (Some (items, rest)) → Begins SpellsItems lexemes rest items
+  by_star left a e = record {
     front = Sign symbol.Star ∷ [];
     whole = after_is (Sign symbol.Star) lexemes left a ∙ ap (λ ls. Sign symbol.Star ∷ ls) (same_rest e);
     spelled = subst (SpellsItems (Sign symbol.Star ∷ [])) (same_tree e) refl;
   }
-  by_star None a e =
+
+  by_items : separated_of item_of (Sign symbol.Comma) lexemes ≡ Some (items, rest) → Begins SpellsItems lexemes rest items
+  by_items e =
       let s = separated_sound SpellsItem item_of (Sign symbol.Comma) item_sound lexemes rest items e in
       record { front = s.front; whole = s.whole; spelled = as_items s.front items s.spelled }
 
@@ -108,4 +103,4 @@ items_complete front more [] end s = rw s refl
 items_complete front more (x ∷ xs) end s =
     let read = separated_complete_before SpellsItem item_of (Sign symbol.Comma) (StartsAmong behind_item) refl (λ rest. inl (rest, refl)) item_complete item_shrinks front more (x ∷ xs) (inr end) (among_none (Sign symbol.Comma) behind_items more refl end) s in
     let star = none_after (Sign symbol.Star) (front ++ more) (λ rest e. let both : None ≡ Some (x ∷ xs, more) = sym (star_unread rest) ∙ ap (separated_of item_of (Sign symbol.Comma)) (sym e) ∙ read in cc) in
-    ap (λ found. star_behind found (front ++ more)) star ∙ read
+    ap (λ found. either found (λ rest. Some ([], rest)) (separated_of item_of (Sign symbol.Comma) (front ++ more))) star ∙ read

@@ -5,16 +5,17 @@ use Rattle.mt_lexer.specs.Tokens.{Lexeme, Word}
 use Rattle.mt_tree.specs.declared.statement.Select.{Select}
 use Rattle.mt_tree.specs.declared.statement.Item.{Item}
 use Rattle.mt_tree.specs.declared.statement.Ref.{Ref}
-use Rattle.mt_reader.specs.Descent.{after, separated_of, joined_of}
+use Rattle.mt_reader.specs.Descent.{after, either, separated_of, joined_of}
 use Rattle.mt_reader.specs.Forms.{Flag, word}
 use Rattle.mt_reader.specs.Fronts.{Begins, AtEnd}
 use Rattle.mt_lexer.specs.Reserved.{reserved}
+use Rattle.mt_reader.proofs.Eithers.{either_some}
 use Rattle.mt_reader.proofs.Fronts.{none_after}
 use Rattle.mt_reader.proofs.Shrinking.{bind_some, same_tree, same_rest}
 use Rattle.mt_reader.proofs.Spelling.{IsSound, IsCompleteBefore, after_is}
 use Rattle.mt_terms.specs.Descent.{agg_of, reserved_atom_of, atom_of, alone_of, factor_of, term_of, terms_of, sum_of, expr_of}
 use Rattle.mt_statements.specs.declared.clauses.Clauses.{Clauses}
-use Rattle.mt_statements.specs.QueryDescent.{flag_of, flag_behind, item_of, select_items_of, refs_of, clauses_of, select_with, select_of}
+use Rattle.mt_statements.specs.QueryDescent.{flag_of, item_of, select_items_of, refs_of, clauses_of, select_with, select_of}
 use Rattle.mt_statements.specs.Query.{SpellsItems, SpellsRefs, SpellsSelect}
 use Rattle.mt_statements.proofs.Endings.{SpellsClauses, in_front, clauses_sound, clauses_complete, clauses_among}
 use Rattle.mt_statements.proofs.Outputs.{items_sound, items_complete}
@@ -25,14 +26,16 @@ use Rattle.mt_statements.proofs.Refs.{refs_sound, refs_complete}
 -- what is read as DISTINCT is spelled so
 distinct_sound : IsSound (Flag (word (codes "distinct"))) (flag_of (Word (codes "distinct")))
 unfolding flag_of
-distinct_sound lexemes rest distinct e = by_word (after (Word (codes "distinct")) lexemes) refl e where
-  by_word : (found : Option (List Lexeme)) → after (Word (codes "distinct")) lexemes ≡ found → flag_behind found lexemes ≡ Some (distinct, rest) → Begins (Flag (word (codes "distinct"))) lexemes rest distinct
-  by_word None a e = record { front = []; whole = same_rest e; spelled = subst (Flag (word (codes "distinct")) []) (same_tree e) refl }
-  by_word (Some left) a e = record {
+distinct_sound lexemes rest distinct e = either_some (after (Word (codes "distinct")) lexemes) (λ left. Some (true, left)) _ (distinct, rest) written none e where
+  written : (left : List Lexeme) → after (Word (codes "distinct")) lexemes ≡ Some left → ◌≡◌ {A = Option (Bool × List Lexeme)} (Some (true, left)) (Some (distinct, rest)) → Begins (Flag (word (codes "distinct"))) lexemes rest distinct
+  written left a e = record {
     front = Word (codes "distinct") ∷ [];
     whole = after_is _ lexemes left a ∙ ap (λ ls. Word (codes "distinct") ∷ ls) (same_rest e);
     spelled = subst (Flag (word (codes "distinct")) (Word (codes "distinct") ∷ [])) (same_tree e) refl;
   }
+
+  none : ◌≡◌ {A = Option (Bool × List Lexeme)} (Some (false, lexemes)) (Some (distinct, rest)) → Begins (Flag (word (codes "distinct"))) lexemes rest distinct
+  none e = record { front = []; whole = same_rest e; spelled = subst (Flag (word (codes "distinct")) []) (same_tree e) refl }
 
 -- no item begins with DISTINCT
 distinct_unread : (rest : List Lexeme) → select_items_of (Word (codes "distinct") ∷ rest) ≡ None
@@ -49,7 +52,7 @@ distinct_complete : (front more : List Lexeme) (distinct : Bool) → after (Word
 unfolding flag_of after
 distinct_complete front more true none s = rw s refl
 distinct_complete front more false none s =
-    ap (λ ls. flag_of (Word (codes "distinct")) (ls ++ more)) s ∙ ap (λ found. flag_behind found more) none
+    ap (λ ls. flag_of (Word (codes "distinct")) (ls ++ more)) s ∙ ap (λ found. either found (λ rest. Some (true, rest)) (Some (false, more))) none
 
 -- SELECT
 

@@ -10,8 +10,10 @@ use Rattle.mt_reader.specs.Descent.{after, name_of, begins_with_name}
 use Rattle.mt_lexer.specs.Reserved.{is_reserved_name}
 use Rattle.mt_reader.specs.Forms.{Maybe, Parts, Flag, word}
 use Rattle.mt_reader.specs.Fronts.{Begins}
+use Rattle.mt_reader.specs.Names.{IsName}
 use Rattle.mt_lexer.specs.Reserved.{reserved}
-use Rattle.mt_reader.proofs.Parts.{name_complete}
+use Rattle.mt_reader.proofs.Eithers.{either_some}
+use Rattle.mt_reader.proofs.Parts.{name_sound, name_complete}
 use Rattle.mt_reader.proofs.Shrinking.{bind_some, same_tree, same_rest}
 use Rattle.mt_reader.proofs.Spelling.{IsSound, after_is, name_is}
 use Rattle.mt_terms.specs.Condition.{SpellsCond}
@@ -21,9 +23,10 @@ use Rattle.mt_terms.proofs.Conditions.{cond_sound}
 use Rattle.mt_terms.proofs.Follow.{cond_follows}
 use Rattle.mt_statements.specs.declared.reference.Start.{Start}
 use Rattle.mt_statements.specs.declared.reference.Start.TheVariants.{Listed, Joined}
-use Rattle.mt_statements.specs.QueryDescent.{alias_of, alias_behind, table_reference_of, start_of, comma_behind, inner_behind, join_behind, joined_reference_of, following_of}
+use Rattle.mt_statements.specs.QueryDescent.{alias_of, alias_behind, table_reference_of, start_of, inner_of, joined_reference_of, following_of}
 use Rattle.mt_statements.specs.Query.{SpellsAlias, SpellsTable, SpellsJoined, SpellsFollowing}
 use Rattle.mt_statements.proofs.Outputs.{SpellsAsName, as_name_sound, as_name_complete}
+use Rattle.mt_statements.proofs.Pairs.{pair_sound}
 use Rattle.mt_statements.proofs.Starts.{StartsAmong, behind_refs, among_none, among_begins_none, among_no_name}
 
 -- tables
@@ -77,17 +80,7 @@ alias_complete front more (Some name) end s = elim s [
 -- what is read as a table is one
 pub table_sound : IsSound SpellsTable table_reference_of
 unfolding table_reference_of
-table_sound lexemes rest ref e =
-    let a = bind_some (name_of lexemes) _ (ref, rest) e in
-    let b = bind_some (alias_of a.0.1) _ (ref, rest) a.2 in
-    let n = name_is lexemes a.0.1 a.0.0 a.1 in
-    let s = alias_sound a.0.1 b.0.1 b.0.0 b.1 in
-    let front = Word a.0.0 ∷ s.front in
-    record {
-      front = front;
-      whole = n.0 ∙ ap (λ ls. Word a.0.0 ∷ ls) (s.whole ∙ ap (λ ls. s.front ++ ls) (same_rest b.2));
-      spelled = subst (SpellsTable front) (same_tree b.2) (record { front = Word a.0.0 ∷ []; back = s.front; split = refl; is_left = (refl, n.1); is_right = s.spelled });
-    }
+table_sound = pair_sound IsName (Maybe SpellsAlias) SpellsTable name_of alias_of (λ table alias. record { table = table; alias = alias; on = None }) name_sound alias_sound (λ table alias tokens s. s)
 
 -- a table is read without a condition
 pub table_alone : (lexemes rest : List Lexeme) (ref : Ref) → table_reference_of lexemes ≡ Some (ref, rest) → ref.on ≡ None
@@ -123,33 +116,29 @@ joined_start inner front s = (inner, record { front = front; back = Word (codes 
 -- what is read as a start is one
 pub start_sound : IsSound (Maybe SpellsStart) start_of
 unfolding start_of
-start_sound lexemes rest start e = by_comma (after (Sign symbol.Comma) lexemes) refl e where
-  by_join : (found : Option (List Lexeme)) → after (Word (codes "join")) lexemes ≡ found → join_behind found lexemes ≡ Some (start, rest) → Begins (Maybe SpellsStart) lexemes rest start
-  by_join None a e = record { front = []; whole = same_rest e; spelled = subst (Maybe SpellsStart []) (same_tree e) refl }
-  by_join (Some left) a e = record {
-    front = Word (codes "join") ∷ [];
-    whole = after_is _ lexemes left a ∙ ap (λ ls. Word (codes "join") ∷ ls) (same_rest e);
-    spelled = subst (Maybe SpellsStart (Word (codes "join") ∷ [])) (same_tree e) (joined_start false [] refl);
-  }
-
-  by_inner : (found : Option (List Lexeme)) → after (Word (codes "inner")) lexemes ≡ found → inner_behind found lexemes ≡ Some (start, rest) → Begins (Maybe SpellsStart) lexemes rest start
-  by_inner None a e = by_join (after (Word (codes "join")) lexemes) refl e
-  by_inner (Some left) a e =
-      let p = bind_some (after (Word (codes "join")) left) _ (start, rest) e in
-      let front = Word (codes "inner") ∷ Word (codes "join") ∷ [] in
-      record {
-        front = front;
-        whole = after_is _ lexemes left a ∙ ap (λ ls. Word (codes "inner") ∷ ls) (after_is _ left p.0 p.1 ∙ ap (λ ls. Word (codes "join") ∷ ls) (same_rest p.2));
-        spelled = subst (Maybe SpellsStart front) (same_tree p.2) (joined_start true (word (codes "inner")) refl);
+start_sound lexemes rest start e =
+    either_some (after (Sign symbol.Comma) lexemes) (λ left. Some (Some Listed, left)) _ (start, rest) (λ left a e. one (Sign symbol.Comma) Listed refl left a e)
+    (λ e. either_some (after (Word (codes "inner")) lexemes) inner_of _ (start, rest) by_inner
+    (λ e. either_some (after (Word (codes "join")) lexemes) (λ left. Some (Some Joined, left)) _ (start, rest) (λ left a e. one (Word (codes "join")) Joined (joined_start false [] refl) left a e) none e) e) e where
+      one : (lexeme : Lexeme) (found : Start) → SpellsStart (lexeme ∷ []) found → (left : List Lexeme) → after lexeme lexemes ≡ Some left → ◌≡◌ {A = Option (Option Start × List Lexeme)} (Some (Some found, left)) (Some (start, rest)) → Begins (Maybe SpellsStart) lexemes rest start
+      one lexeme found s left a e = record {
+        front = lexeme ∷ [];
+        whole = after_is _ lexemes left a ∙ ap (λ ls. lexeme ∷ ls) (same_rest e);
+        spelled = subst (Maybe SpellsStart (lexeme ∷ [])) (same_tree e) s;
       }
 
-  by_comma : (found : Option (List Lexeme)) → after (Sign symbol.Comma) lexemes ≡ found → comma_behind found lexemes ≡ Some (start, rest) → Begins (Maybe SpellsStart) lexemes rest start
-  by_comma None a e = by_inner (after (Word (codes "inner")) lexemes) refl e
-  by_comma (Some left) a e = record {
-    front = Sign symbol.Comma ∷ [];
-    whole = after_is _ lexemes left a ∙ ap (λ ls. Sign symbol.Comma ∷ ls) (same_rest e);
-    spelled = subst (Maybe SpellsStart (Sign symbol.Comma ∷ [])) (same_tree e) refl;
-  }
+      by_inner : (left : List Lexeme) → after (Word (codes "inner")) lexemes ≡ Some left → inner_of left ≡ Some (start, rest) → Begins (Maybe SpellsStart) lexemes rest start
+      by_inner left a e =
+          let p = bind_some (after (Word (codes "join")) left) _ (start, rest) e in
+          let front = Word (codes "inner") ∷ Word (codes "join") ∷ [] in
+          record {
+            front = front;
+            whole = after_is _ lexemes left a ∙ ap (λ ls. Word (codes "inner") ∷ ls) (after_is _ left p.0 p.1 ∙ ap (λ ls. Word (codes "join") ∷ ls) (same_rest p.2));
+            spelled = subst (Maybe SpellsStart front) (same_tree p.2) (joined_start true (word (codes "inner")) refl);
+          }
+
+      none : ◌≡◌ {A = Option (Option Start × List Lexeme)} (Some (None, lexemes)) (Some (start, rest)) → Begins (Maybe SpellsStart) lexemes rest start
+      none e = record { front = []; whole = same_rest e; spelled = subst (Maybe SpellsStart []) (same_tree e) refl }
 
 -- a comma is read
 comma_reads : (more : List Lexeme) → start_of (Sign symbol.Comma ∷ more) ≡ Some (Some Listed, more)
@@ -166,9 +155,7 @@ join_reads false front more s = rw s refl
 pub start_none : (more : List Lexeme) → StartsAmong behind_refs more → start_of more ≡ Some (None, more)
 unfolding start_of
 start_none more s =
-    ap (λ found. comma_behind found more) (among_none (Sign symbol.Comma) behind_refs more refl s)
-    ∙ ap (λ found. inner_behind found more) (among_none (Word (codes "inner")) behind_refs more refl s)
-    ∙ ap (λ found. join_behind found more) (among_none (Word (codes "join")) behind_refs more refl s)
+    rw (among_none (Sign symbol.Comma) behind_refs more refl s, among_none (Word (codes "inner")) behind_refs more refl s, among_none (Word (codes "join")) behind_refs more refl s) refl
 
 -- references behind the first
 

@@ -8,7 +8,7 @@ use Rattle.mt_tree.specs.declared.statement.Filter.{Filter}
 use Rattle.mt_tree.specs.declared.statement.SetItem.{SetItem}
 use Rattle.mt_tree.specs.declared.statement.Stmt.{Stmt}
 use Rattle.mt_tree.specs.declared.statement.Stmt.TheVariants as stmt
-use Rattle.mt_reader.specs.Descent.{◌>>=◌, after, name_of, literal_of, separated_of, closed_of, bracketed_of, maybe_of}
+use Rattle.mt_reader.specs.Descent.{◌>>=◌, after, either, name_of, literal_of, separated_of, closed_of, bracketed_of, maybe_of}
 use Rattle.mt_terms.specs.Descent.{expr_of, cond_of}
 
 -- a table, and perhaps a condition
@@ -53,14 +53,9 @@ at_most limit read = do
 unfoldable pub few_tuples_of : ℕ → List Lexeme → Option (List (List Literal) × List Lexeme)
 few_tuples_of limit lexemes = at_most limit (separated_of tuple_of (Sign symbol.Comma) lexemes)
 
--- names in brackets, where a bracket opens
-abbrev pub columns_behind : Option (List Lexeme) → List Lexeme → Option (List (List ℕ) × List Lexeme)
-columns_behind None lexemes = Some ([], lexemes)
-columns_behind (Some open_) lexemes = closed_of (separated_of name_of (Sign symbol.Comma)) open_
-
 -- perhaps names in brackets
 unfoldable pub columns_of : List Lexeme → Option (List (List ℕ) × List Lexeme)
-columns_of lexemes = columns_behind (after (Sign symbol.Open) lexemes) lexemes
+columns_of lexemes = either (after (Sign symbol.Open) lexemes) (closed_of (separated_of name_of (Sign symbol.Comma))) (Some ([], lexemes))
 
 -- behind INSERT
 unfoldable pub insert_of : List Lexeme → Option (Stmt × List Lexeme)
@@ -78,30 +73,23 @@ filtered_of change lexemes = do
   filter ← filter_of lexemes
   Some (change filter.0, filter.1)
 
--- where there is no RESTORE, a PURGE
-abbrev pub restore_behind : Option (List Lexeme) → List Lexeme → Option (Stmt × List Lexeme)
-restore_behind (Some rest) lexemes = filtered_of stmt.Restore rest
-restore_behind None lexemes = do
-  rest ← after (Word (codes "purge")) lexemes
-  filtered_of stmt.Purge rest
-
--- where there is no DELETE, one of the others
-abbrev pub delete_behind : Option (List Lexeme) → List Lexeme → Option (Stmt × List Lexeme)
-delete_behind (Some rest) lexemes = do
-  from ← after (Word (codes "from")) rest
+-- behind DELETE
+abbrev pub delete_of : List Lexeme → Option (Stmt × List Lexeme)
+delete_of lexemes = do
+  from ← after (Word (codes "from")) lexemes
   filtered_of stmt.Delete from
-delete_behind None lexemes = restore_behind (after (Word (codes "restore")) lexemes) lexemes
 
--- where there is no UPDATE, one of the others
-abbrev pub update_behind : Option (List Lexeme) → List Lexeme → Option (Stmt × List Lexeme)
-update_behind (Some rest) lexemes = update_of rest
-update_behind None lexemes = delete_behind (after (Word (codes "delete")) lexemes) lexemes
-
--- where there is no INSERT, one of the others
-abbrev pub insert_behind : Option (List Lexeme) → List Lexeme → Option (Stmt × List Lexeme)
-insert_behind (Some rest) lexemes = insert_of rest
-insert_behind None lexemes = update_behind (after (Word (codes "update")) lexemes) lexemes
+-- where no other word comes, a PURGE
+abbrev pub other_change_of : List Lexeme → Option (Stmt × List Lexeme)
+other_change_of lexemes = do
+  purge ← after (Word (codes "purge")) lexemes
+  filtered_of stmt.Purge purge
 
 -- a statement that changes rows
 unfoldable pub change_of : List Lexeme → Option (Stmt × List Lexeme)
-change_of lexemes = insert_behind (after (Word (codes "insert")) lexemes) lexemes
+change_of lexemes =
+    either (after (Word (codes "insert")) lexemes) insert_of
+    (either (after (Word (codes "update")) lexemes) update_of
+    (either (after (Word (codes "delete")) lexemes) delete_of
+    (either (after (Word (codes "restore")) lexemes) (filtered_of stmt.Restore)
+    (other_change_of lexemes))))

@@ -8,7 +8,7 @@ use Rattle.mt_tree.specs.declared.statement.Ref.{Ref}
 use Rattle.mt_tree.specs.declared.statement.OrderKey.{OrderKey}
 use Rattle.mt_tree.specs.declared.statement.OrderBy.{OrderBy}
 use Rattle.mt_tree.specs.declared.statement.OrderBy.TheVariants.{Name, Position}
-use Rattle.mt_reader.specs.Descent.{◌>>=◌, after, name_of, number_of, begins_with_name, begins_with_word, with_front, separated_of, maybe_of}
+use Rattle.mt_reader.specs.Descent.{◌>>=◌, after, either, name_of, number_of, begins_with_name, begins_with_word, with_front, separated_of, maybe_of}
 use Rattle.mt_terms.specs.Descent.{column_of, expr_of, cond_of}
 use Rattle.mt_statements.specs.declared.reference.Start.{Start}
 use Rattle.mt_statements.specs.declared.reference.Start.TheVariants.{Listed, Joined}
@@ -16,14 +16,9 @@ use Rattle.mt_statements.specs.declared.clauses.Clauses.{Clauses}
 
 -- words that need not be written
 
--- whether the word is written
-abbrev pub flag_behind : Option (List Lexeme) → List Lexeme → Option (Bool × List Lexeme)
-flag_behind (Some rest) lexemes = Some (true, rest)
-flag_behind None lexemes = Some (false, lexemes)
-
--- perhaps this word
+-- whether this word is written
 unfoldable pub flag_of : Lexeme → List Lexeme → Option (Bool × List Lexeme)
-flag_of word lexemes = flag_behind (after word lexemes) lexemes
+flag_of word lexemes = either (after word lexemes) (λ rest. Some (true, rest)) (Some (false, lexemes))
 
 -- perhaps AS and a name
 unfoldable pub as_name_of : List Lexeme → Option (Option (List ℕ) × List Lexeme)
@@ -38,14 +33,9 @@ item_of lexemes = do
   name ← as_name_of expr.1
   Some (record { expr = expr.0; name = name.0 }, name.1)
 
--- where there is no star, items
-abbrev pub star_behind : Option (List Lexeme) → List Lexeme → Option (List Item × List Lexeme)
-star_behind (Some rest) lexemes = Some ([], rest)
-star_behind None lexemes = separated_of item_of (Sign symbol.Comma) lexemes
-
 -- the star, or items with commas between
 unfoldable pub select_items_of : List Lexeme → Option (List Item × List Lexeme)
-select_items_of lexemes = star_behind (after (Sign symbol.Star) lexemes) lexemes
+select_items_of lexemes = either (after (Sign symbol.Star) lexemes) (λ rest. Some ([], rest)) (separated_of item_of (Sign symbol.Comma) lexemes)
 
 -- references
 
@@ -67,26 +57,19 @@ table_reference_of lexemes = do
   alias ← alias_of table.1
   Some (record { table = table.0; alias = alias.0; on = None }, alias.1)
 
--- where there is no JOIN, nothing
-abbrev pub join_behind : Option (List Lexeme) → List Lexeme → Option (Option Start × List Lexeme)
-join_behind (Some rest) lexemes = Some (Some Joined, rest)
-join_behind None lexemes = Some (None, lexemes)
-
--- behind INNER a JOIN, and where there is no INNER, perhaps one
-abbrev pub inner_behind : Option (List Lexeme) → List Lexeme → Option (Option Start × List Lexeme)
-inner_behind (Some rest) lexemes = do
-  join ← after (Word (codes "join")) rest
+-- behind INNER
+abbrev pub inner_of : List Lexeme → Option (Option Start × List Lexeme)
+inner_of lexemes = do
+  join ← after (Word (codes "join")) lexemes
   Some (Some Joined, join)
-inner_behind None lexemes = join_behind (after (Word (codes "join")) lexemes) lexemes
-
--- where there is no comma, perhaps a JOIN
-abbrev pub comma_behind : Option (List Lexeme) → List Lexeme → Option (Option Start × List Lexeme)
-comma_behind (Some rest) lexemes = Some (Some Listed, rest)
-comma_behind None lexemes = inner_behind (after (Word (codes "inner")) lexemes) lexemes
 
 -- what one more reference begins with, if there is one
 unfoldable pub start_of : List Lexeme → Option (Option Start × List Lexeme)
-start_of lexemes = comma_behind (after (Sign symbol.Comma) lexemes) lexemes
+start_of lexemes =
+    either (after (Sign symbol.Comma) lexemes) (λ rest. Some (Some Listed, rest))
+    (either (after (Word (codes "inner")) lexemes) inner_of
+    (either (after (Word (codes "join")) lexemes) (λ rest. Some (Some Joined, rest))
+    (Some (None, lexemes))))
 
 -- a table, ON and a condition
 unfoldable pub joined_reference_of : List Lexeme → Option (Ref × List Lexeme)
@@ -143,19 +126,12 @@ by_behind false lexemes = do
 unfoldable pub by_of : List Lexeme → Option (OrderBy × List Lexeme)
 by_of lexemes = by_behind (begins_with_word lexemes) lexemes
 
--- where there is no DESC, perhaps an ASC
-abbrev pub asc_behind : Option (List Lexeme) → List Lexeme → Option (Bool × List Lexeme)
-asc_behind (Some rest) lexemes = Some (false, rest)
-asc_behind None lexemes = Some (false, lexemes)
-
--- whether there is a DESC
-abbrev pub desc_behind : Option (List Lexeme) → List Lexeme → Option (Bool × List Lexeme)
-desc_behind (Some rest) lexemes = Some (true, rest)
-desc_behind None lexemes = asc_behind (after (Word (codes "asc")) lexemes) lexemes
-
 -- perhaps a direction; whether it is descending
 unfoldable pub direction_of : List Lexeme → Option (Bool × List Lexeme)
-direction_of lexemes = desc_behind (after (Word (codes "desc")) lexemes) lexemes
+direction_of lexemes =
+    either (after (Word (codes "desc")) lexemes) (λ rest. Some (true, rest))
+    (either (after (Word (codes "asc")) lexemes) (λ rest. Some (false, rest))
+    (Some (false, lexemes)))
 
 -- a name or a number, and perhaps a direction
 unfoldable pub key_of : List Lexeme → Option (OrderKey × List Lexeme)
@@ -166,16 +142,15 @@ key_of lexemes = do
 
 -- the clauses behind the references
 
--- no list where the word is not there
-abbrev pub listed_behind : {X : Type 0} → (List Lexeme → Option (X × List Lexeme)) → Option (List Lexeme) → List Lexeme → Option (List X × List Lexeme)
-listed_behind item None lexemes = Some ([], lexemes)
-listed_behind item (Some rest) lexemes = do
-  by ← after (Word (codes "by")) rest
+-- BY, and items with commas between
+abbrev pub by_items_of : {X : Type 0} → (List Lexeme → Option (X × List Lexeme)) → List Lexeme → Option (List X × List Lexeme)
+by_items_of item lexemes = do
+  by ← after (Word (codes "by")) lexemes
   separated_of item (Sign symbol.Comma) by
 
 -- perhaps a word, BY, and items with commas between
 unfoldable pub listed_of : {X : Type 0} → (List Lexeme → Option (X × List Lexeme)) → Lexeme → List Lexeme → Option (List X × List Lexeme)
-listed_of item word lexemes = listed_behind item (after word lexemes) lexemes
+listed_of item word lexemes = either (after word lexemes) (by_items_of item) (Some ([], lexemes))
 
 -- the clauses, each of which need not be written
 unfoldable pub clauses_of : List Lexeme → Option (Clauses × List Lexeme)

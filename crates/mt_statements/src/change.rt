@@ -11,11 +11,12 @@ use mt_reader::{ReadFault, Reader};
 use mt_tree::Stmt;
 use std::alloc::Global;
 
-/// TakesExactly a statement that changes rows, up to the end of the tokens or a semicolon that ends them;
-/// `None` is one with a number outside 64 bits.
+/// Takes a statement that changes rows from the front of the tokens; `None` is one with a number
+/// outside 64 bits. Where such a statement has nothing behind it but perhaps a semicolon, it is that
+/// one which is taken. The second clause is for the readers of longer forms.
 ///
-/// `ReadFault::Unread` says that the tokens are no such statement, and `ReadFault::Memory` that
-/// memory ran out. The second clause is for the readers of longer forms.
+/// `ReadFault::Unread` says that no such statement is there, and `ReadFault::Memory` that memory ran
+/// out; what an error leaves of the tokens is not said.
 pub fn read_change(alloc: Global, reader: &mut Reader<'_>) -> Result<Option<Stmt>, ReadFault>
     ensures spelled { TakesFront SpellsChange AtEnd (Keeps IsChangeInside) result reader.old reader.new }
     ensures taken { TakesInside IsChangeInside result reader.new (change_of reader.old) }
@@ -23,7 +24,7 @@ pub fn read_change(alloc: Global, reader: &mut Reader<'_>) -> Result<Option<Stmt
     change(alloc, reader)
 }
 
-/// TakesExactly a statement by its first word.
+/// Takes a statement by its first word.
 #[tactic(auto, unfolding(crate::specs::ChangeDescent::change_of))]
 fn change(alloc: Global, reader: &mut Reader<'_>) -> Result<Option<Stmt>, ReadFault>
     ensures { TakesInside IsChangeInside result reader.new (change_of reader.old) }

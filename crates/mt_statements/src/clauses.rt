@@ -26,7 +26,7 @@ pub(crate) struct Clauses {
     pub(crate) limit: Option<u64>,
 }
 
-/// TakesExactly the clauses that are there; `None` is for a number outside 64 bits, here and below.
+/// Takes the clauses that are there; `None` is for a number outside 64 bits, here and below.
 #[tactic(auto, unfolding(crate::specs::QueryDescent::clauses_of))]
 pub(crate) fn take_clauses(
     alloc: Global,
@@ -61,7 +61,7 @@ fn gathered(
     })
 }
 
-/// TakesExactly this word, BY, and items with commas between, if the word comes next.
+/// Takes this word, BY, and items with commas between, if the word comes next.
 #[tactic(auto, unfolding(crate::specs::QueryDescent::listed_of))]
 fn listed<P: Production>(
     alloc: Global,

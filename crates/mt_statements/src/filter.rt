@@ -7,7 +7,7 @@ use mt_terms::ConditionForm;
 use mt_tree::Filter;
 use std::alloc::Global;
 
-/// TakesExactly a table, and perhaps a condition behind WHERE; `None` is for a number outside 64 bits.
+/// Takes a table, and perhaps a condition behind WHERE; `None` is for a number outside 64 bits.
 #[tactic(auto, unfolding(crate::specs::ChangeDescent::filter_of))]
 pub(crate) fn filter(alloc: Global, reader: &mut Reader<'_>) -> Result<Option<Filter>, ReadFault>
     ensures { TakesInside IsFilterInside result reader.new (filter_of reader.old) }

@@ -9,7 +9,7 @@ use mt_reader::{NameForm, ReadFault, Reader, separated};
 use mt_tree::{Insert, Names, Stmt};
 use std::alloc::Global;
 
-/// TakesExactly what stands behind INSERT; `None` is for a number outside 64 bits.
+/// Takes what stands behind INSERT; `None` is for a number outside 64 bits.
 #[tactic(auto, unfolding(crate::specs::ChangeDescent::insert_of))]
 pub(crate) fn insert(alloc: Global, reader: &mut Reader<'_>) -> Result<Option<Stmt>, ReadFault>
     ensures { TakesInside IsChangeInside result reader.new (insert_of reader.old) }
@@ -29,7 +29,7 @@ pub(crate) fn insert(alloc: Global, reader: &mut Reader<'_>) -> Result<Option<St
     }
 }
 
-/// TakesExactly names in brackets, if a bracket opens; no names are for none.
+/// Takes names in brackets, if a bracket opens; no names are for none.
 #[tactic(auto, unfolding(crate::specs::ChangeDescent::columns_of))]
 fn columns(alloc: Global, reader: &mut Reader<'_>) -> Result<Option<Names>, ReadFault>
     ensures { TakesInside (λ _. Unit {0}) result reader.new (columns_of reader.old) }

@@ -13,7 +13,7 @@ use mt_tree::Expr;
 use mt_value::Str;
 use std::alloc::Global;
 
-/// TakesExactly the star, as no items, or items with commas between; `None` is for a number outside 64 bits,
+/// Takes the star, as no items, or items with commas between; `None` is for a number outside 64 bits,
 /// here and below.
 #[tactic(auto, unfolding(crate::specs::QueryDescent::select_items_of))]
 pub(crate) fn items(
@@ -46,7 +46,7 @@ impl Production for OutputForm {
     }
 }
 
-/// TakesExactly an expression, and AS and a name, if AS comes next.
+/// Takes an expression, and AS and a name, if AS comes next.
 #[tactic(auto, unfolding(crate::specs::QueryDescent::item_of))]
 fn item(alloc: Global, reader: &mut Reader<'_>) -> Result<Option<mt_tree::Item>, ReadFault>
     ensures { TakesInside IsItemInside result reader.new (item_of reader.old) }

@@ -26,7 +26,7 @@ impl Production for KeyForm {
     }
 }
 
-/// TakesExactly a name or a number, and a direction, if there is one; `None` is for a number outside 64 bits,
+/// Takes a name or a number, and a direction, if there is one; `None` is for a number outside 64 bits,
 /// here and below.
 #[tactic(auto, unfolding(crate::specs::QueryDescent::key_of))]
 fn key(alloc: Global, reader: &mut Reader<'_>) -> Result<Option<OrderKey>, ReadFault>
@@ -40,7 +40,7 @@ fn key(alloc: Global, reader: &mut Reader<'_>) -> Result<Option<OrderKey>, ReadF
     }
 }
 
-/// TakesExactly a name or a number.
+/// Takes a name or a number.
 #[tactic(auto, unfolding(crate::specs::QueryDescent::by_of))]
 fn order_by(alloc: Global, reader: &mut Reader<'_>) -> Result<Option<OrderBy>, ReadFault>
     ensures { TakesInside IsByInside result reader.new (by_of reader.old) }
@@ -52,7 +52,7 @@ fn order_by(alloc: Global, reader: &mut Reader<'_>) -> Result<Option<OrderBy>, R
     Ok(position.map(OrderBy::Position))
 }
 
-/// TakesExactly ASC or DESC, if one comes next: whether it is DESC.
+/// Takes ASC or DESC, if one comes next: whether it is DESC.
 #[tactic(auto, unfolding(crate::specs::QueryDescent::direction_of))]
 fn is_descending(reader: &mut Reader<'_>) -> bool
     ensures { direction_of reader.old ≡ Some (result, reader.new) }

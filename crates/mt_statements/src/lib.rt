@@ -1,7 +1,9 @@
 //! The statements of a tenant: SELECT, and INSERT, UPDATE, DELETE, RESTORE and PURGE. Their grammar as
-//! a relation between tokens and trees, and the readers of them. It promises that tokens which end
-//! with the statement, but for a semicolon, are read exactly where they spell one, as its one tree;
-//! at most 4 references stand in a SELECT, and 1,000 tuples in an INSERT.
+//! a relation between tokens and trees, and the readers of them, which take a front of the tokens and
+//! do not ask that the tokens end there. They promise that a front which spells a statement, and has
+//! nothing behind it but perhaps a semicolon, is taken, as its one tree, and that it is the only one;
+//! where there is none such, what is taken is a front that spells a statement, or nothing is read. At
+//! most 4 references stand in a SELECT, and 1,000 tuples in an INSERT.
 #![tactic(auto)]
 
 mod change;

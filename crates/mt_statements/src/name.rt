@@ -9,7 +9,7 @@ use mt_reader::{Production, ReadFault, Reader, size_of};
 use mt_value::Str;
 use std::alloc::Global;
 
-/// TakesExactly AS and a name, if AS comes next.
+/// Takes AS and a name, if AS comes next.
 #[tactic(auto, unfolding(crate::specs::QueryDescent::as_name_of, mt_reader::specs::Descent::maybe_of))]
 pub(crate) fn as_name(alloc: Global, reader: &mut Reader<'_>) -> Result<Option<Str>, ReadFault>
     ensures { TakesExactly result (λ name. (name, reader.new)) (as_name_of reader.old) }
@@ -38,7 +38,7 @@ impl Production for NumberForm {
     }
 }
 
-/// TakesExactly a number; `None` is one outside 64 bits.
+/// Takes a number; `None` is one outside 64 bits.
 pub(crate) fn number(reader: &mut Reader<'_>) -> Result<Option<u64>, ReadFault>
     ensures { TakesInside IsNumberInside result reader.new (number_of reader.old) }
 {

@@ -20,8 +20,12 @@ use mt_reader::{ReadFault, Reader};
 use mt_tree::{Item, Ref, Select};
 use std::alloc::Global;
 
-/// TakesExactly a SELECT, up to the end of the tokens or a semicolon that ends them; `None` is one with a
-/// number outside 64 bits. The second clause is for the readers of longer forms.
+/// Takes a SELECT from the front of the tokens; `None` is one with a number outside 64 bits. Where a
+/// SELECT has nothing behind it but perhaps a semicolon, it is that one which is taken. The second
+/// clause is for the readers of longer forms.
+///
+/// `ReadFault::Unread` says that no such SELECT is there, and `ReadFault::Memory` that memory ran out;
+/// what an error leaves of the tokens is not said.
 pub fn read_select(alloc: Global, reader: &mut Reader<'_>) -> Result<Option<Select>, ReadFault>
     ensures spelled { TakesFront SpellsSelect AtEnd (Keeps IsSelectInside) result reader.old reader.new }
     ensures taken { TakesInside IsSelectInside result reader.new (select_of reader.old) }
@@ -29,7 +33,7 @@ pub fn read_select(alloc: Global, reader: &mut Reader<'_>) -> Result<Option<Sele
     select(alloc, reader)
 }
 
-/// TakesExactly a SELECT.
+/// Takes a SELECT.
 #[tactic(auto, unfolding(crate::specs::QueryDescent::select_of))]
 fn select(alloc: Global, reader: &mut Reader<'_>) -> Result<Option<Select>, ReadFault>
     ensures { TakesInside IsSelectInside result reader.new (select_of reader.old) }
@@ -43,7 +47,7 @@ fn select(alloc: Global, reader: &mut Reader<'_>) -> Result<Option<Select>, Read
     Ok(selected(distinct, items, refs, clauses))
 }
 
-/// TakesExactly DISTINCT, if it comes next: whether it does.
+/// Takes DISTINCT, if it comes next: whether it does.
 #[tactic(auto, unfolding(crate::specs::QueryDescent::flag_of))]
 fn is_distinct(reader: &mut Reader<'_>) -> bool
     ensures { flag_of (Word (codes "distinct")) reader.old ≡ Some (result, reader.new) }

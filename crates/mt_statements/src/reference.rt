@@ -23,7 +23,7 @@ pub(crate) enum Start {
     Joined,
 }
 
-/// TakesExactly references, one or more; `None` is for a number outside 64 bits, here and below.
+/// Takes references, one or more; `None` is for a number outside 64 bits, here and below.
 pub(crate) fn references(
     alloc: Global,
     reader: &mut Reader<'_>,
@@ -43,7 +43,7 @@ pub(crate) fn references(
     Ok(refs)
 }
 
-/// TakesExactly what one more reference begins with, if there is one.
+/// Takes what one more reference begins with, if there is one.
 #[tactic(auto, unfolding(crate::specs::QueryDescent::start_of))]
 fn next_start(reader: &mut Reader<'_>) -> Result<Option<Start>, ReadFault>
     ensures { TakesExactly result (λ start. (start, reader.new)) (start_of reader.old) }
@@ -61,7 +61,7 @@ fn next_start(reader: &mut Reader<'_>) -> Result<Option<Start>, ReadFault>
     Ok(None)
 }
 
-/// TakesExactly a reference behind the first.
+/// Takes a reference behind the first.
 #[tactic(auto, unfolding(crate::specs::QueryDescent::following_of))]
 fn following(alloc: Global, reader: &mut Reader<'_>, start: Start) -> Result<Option<Ref>, ReadFault>
     ensures { TakesInside IsRefInside result reader.new (following_of start reader.old) }
@@ -72,7 +72,7 @@ fn following(alloc: Global, reader: &mut Reader<'_>, start: Start) -> Result<Opt
     }
 }
 
-/// TakesExactly a table, ON and a condition.
+/// Takes a table, ON and a condition.
 #[tactic(auto, unfolding(crate::specs::QueryDescent::joined_reference_of))]
 fn joined(alloc: Global, reader: &mut Reader<'_>) -> Result<Option<Ref>, ReadFault>
     ensures { TakesInside IsRefInside result reader.new (joined_reference_of reader.old) }
@@ -89,7 +89,7 @@ fn joined(alloc: Global, reader: &mut Reader<'_>) -> Result<Option<Ref>, ReadFau
     }
 }
 
-/// TakesExactly a table, and its alias, if there is one.
+/// Takes a table, and its alias, if there is one.
 #[tactic(auto, unfolding(crate::specs::QueryDescent::table_reference_of))]
 fn table(alloc: Global, reader: &mut Reader<'_>) -> Result<Ref, ReadFault>
     ensures { TakesExactly result (λ ref. (ref, reader.new)) (table_reference_of reader.old) }
@@ -103,7 +103,7 @@ fn table(alloc: Global, reader: &mut Reader<'_>) -> Result<Ref, ReadFault>
     })
 }
 
-/// TakesExactly a name, with AS or without, if there is one.
+/// Takes a name, with AS or without, if there is one.
 #[tactic(auto, unfolding(crate::specs::QueryDescent::alias_of))]
 fn alias(alloc: Global, reader: &mut Reader<'_>) -> Result<Option<Str>, ReadFault>
     ensures { TakesExactly result (λ alias. (alias, reader.new)) (alias_of reader.old) }

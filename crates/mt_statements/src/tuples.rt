@@ -5,7 +5,7 @@ ghost use Rattle.mt_statements.specs.ChangeInside.{IsTupleInside};
 
 use mt_lexer::Symbol;
 use mt_list::List;
-use mt_reader::{Production, LiteralForm, ReadFault, Reader, bracketed, pushed};
+use mt_reader::{LiteralForm, Production, ReadFault, Reader, bracketed, pushed};
 use mt_tree::Tuple;
 use std::alloc::Global;
 
@@ -31,7 +31,7 @@ impl Production for TupleForm {
     }
 }
 
-/// TakesExactly the tuples of an INSERT; `None` is for a number outside 64 bits.
+/// Takes the tuples of an INSERT; `None` is for a number outside 64 bits.
 pub(crate) fn tuples(
     alloc: Global,
     reader: &mut Reader<'_>,
@@ -41,7 +41,7 @@ pub(crate) fn tuples(
     few_tuples(alloc, reader, TUPLES)
 }
 
-/// TakesExactly so many tuples at most. They are counted also where a number outside 64 bits was met, since
+/// Takes so many tuples at most. They are counted also where a number outside 64 bits was met, since
 /// then too many are no INSERT all the same.
 fn few_tuples(
     alloc: Global,

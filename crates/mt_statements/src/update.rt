@@ -42,7 +42,7 @@ fn assignment(column: Str, expr: Option<Expr>) -> Option<SetItem>
     })
 }
 
-/// TakesExactly what stands behind UPDATE; `None` is for a number outside 64 bits.
+/// Takes what stands behind UPDATE; `None` is for a number outside 64 bits.
 #[tactic(auto, unfolding(crate::specs::ChangeDescent::update_of))]
 pub(crate) fn update(alloc: Global, reader: &mut Reader<'_>) -> Result<Option<Stmt>, ReadFault>
     ensures { TakesInside IsChangeInside result reader.new (update_of reader.old) }

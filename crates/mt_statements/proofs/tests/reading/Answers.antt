@@ -1,6 +1,6 @@
 -- The tokens that were found are tokens of the text.
 use Rattle.mt_reader.proofs.Lexemes.{tokens_say}
-use Rattle.mt_statements.proofs.tests.changes.reading.Goals as goal
+use Rattle.mt_statements.proofs.tests.reading.Goals as goal
 
 pub new-reader-requires : goal.new-reader-requires
 new-reader-requires c =
