@@ -4,10 +4,9 @@ ghost use Rattle.mt_reader.specs.Taken.{Answers, TakesInside};
 ghost use Rattle.mt_grammar.specs.Descent.{form_of, statement_of};
 ghost use Rattle.mt_grammar.specs.Statement.{SpellsStmt, IsStmtInside};
 
-use mt_statements::read_change;
 use mt_lexer::tokens;
-use mt_statements::read_select;
 use mt_reader::{ParseFault, ReadFault, Reader};
+use mt_statements::{read_change, read_select};
 use mt_tree::{Select, Stmt};
 use std::alloc::Global;
 
@@ -30,7 +29,7 @@ fn statement(alloc: Global, mut reader: Reader<'_>) -> Result<Stmt, ParseFault>
     read.ok_or(ParseFault::Literal)
 }
 
-/// TakesExactly a statement; `None` is for a number outside 64 bits.
+/// Takes a statement; `None` is for a number outside 64 bits.
 fn form(alloc: Global, reader: &mut Reader<'_>) -> Result<Option<Stmt>, ReadFault>
     ensures { TakesInside IsStmtInside result reader.new (form_of reader.old) }
 {

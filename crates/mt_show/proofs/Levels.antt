@@ -15,8 +15,7 @@ use Rattle.mt_tree.specs.declared.expression.Cond.TheVariants as cond
 use Rattle.mt_tree.specs.declared.expression.Cond.TheVariants.{rolls-Or, rolls-And, rolls-Not, rolls-Compare, rolls-Member, rolls-Between, rolls-Like, rolls-IsNull}
 use Rattle.mt_tree.specs.declared.expression.Cond.TheOpen.{Cond-F}
 use Rattle.mt_tree.specs.declared.expression.Cond.TheFolds.{fold-roll-Cond}
-use Rattle.mt_show.specs.Shown.{Places, between, atom_tokens, never_bracketed, bracketed_inside, bracketed_as_member, sum_tokens, expr_places_step, term_places_step, expr_places, cond_places_step, cond_places}
-use Rattle.mt_show.specs.Printing.{comparison_tokens, membership_tokens, range_tokens, likeness_tokens, null_test_tokens}
+use Rattle.mt_show.specs.Shown.{Places, between, atom_tokens, never_bracketed, bracketed_inside, bracketed_as_member, sum_tokens, expr_places_step, term_places_step, expr_places, cond_places_step, cond_places, comparison_tokens, membership_tokens, range_tokens, likeness_tokens, null_test_tokens}
 
 -- what is taken of members that are mapped
 map_twice : {X Y Z : Type 0} (f : Y → Z) (g : X → Y) (xs : List X) → map f (map g xs) ≡ map (λ x. f (g x)) xs

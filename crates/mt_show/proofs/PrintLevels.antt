@@ -12,8 +12,8 @@ use Rattle.mt_tree.specs.declared.expression.Cond.{Cond}
 use Rattle.mt_tree.specs.declared.expression.Cond.TheVariants as cond
 use Rattle.mt_show.specs.declared.place.Place.{Place}
 use Rattle.mt_show.specs.declared.place.Place.TheVariants.{Whole, Outer, Inner}
-use Rattle.mt_show.specs.Shown.{Places, between, atom_tokens, never_bracketed, bracketed_inside, bracketed_as_member, sum_tokens, expr_places, cond_places}
-use Rattle.mt_show.specs.Printing.{placed, is_member, is_inner, where_needed, comparison_tokens, membership_tokens, range_tokens, likeness_tokens, null_test_tokens}
+use Rattle.mt_show.specs.Shown.{Places, between, atom_tokens, never_bracketed, bracketed_inside, bracketed_as_member, sum_tokens, expr_places, cond_places, comparison_tokens, membership_tokens, range_tokens, likeness_tokens, null_test_tokens}
+use Rattle.mt_show.specs.Printing.{placed, is_member, is_inner, where_needed}
 use Rattle.mt_show.proofs.Levels.{term_places, places_atom, places_sum, places_product, places_or, places_and, places_not, places_comparison, places_membership, places_range, places_likeness, places_null_test}
 
 -- with a bracket in front and one behind, where they are needed

@@ -12,13 +12,13 @@ use Rattle.mt_lexer.specs.declared.token.Symbol.TheVariants as symbol
 use Rattle.mt_tree.specs.declared.expression.Literal.TheVariants.{Null, Int, Text}
 use Rattle.mt_tree.specs.declared.expression.Agg.TheVariants as agg
 use Rattle.mt_tree.specs.declared.expression.Atom.TheVariants as atom
-use Rattle.mt_reader.specs.Forms.{Just, word}
+use Rattle.mt_reader.specs.Forms.{Just, Flag, word}
 use Rattle.mt_reader.specs.Names.{IsName}
 use Rattle.mt_reader.specs.Literals.{SpellsLiteral}
 use Rattle.mt_terms.specs.Expression.{SpellsNamed, SpellsColumn, SpellsAgg, SpellsAtom, Called}
 use Rattle.mt_show.specs.Text.{IsWritten}
-use Rattle.mt_show.specs.Shown.{literal_tokens, int_tokens, named_tokens, column_tokens, agg_tokens, atom_tokens, bracketed}
-use Rattle.mt_show.proofs.ShownForms.{Prints, Gives, Shows, written_one, written_bracketed, parts_give, bracketed_shows, behind_shows}
+use Rattle.mt_show.specs.Shown.{literal_tokens, int_tokens, named_tokens, column_tokens, agg_tokens, atom_tokens, bracketed, flag_tokens}
+use Rattle.mt_show.proofs.ShownForms.{Prints, Gives, Shows, written_one, written_bracketed, nothing_gives, parts_give, bracketed_shows, behind_shows}
 
 -- a word that spells itself
 abbrev pub is_plain : List ℕ → Bool
@@ -50,6 +50,11 @@ word_written tokens name w e = written_one (Word name) (All-head IsWritten (Word
 -- and is given again
 pub word_gives : (name : List ℕ) → Gives (Just (word name)) (word name)
 word_gives name tokens w s = (refl, word_written tokens name w s)
+
+-- a word, where it is written
+pub flag_shows : (name : List ℕ) → Shows (Flag (word name)) (flag_tokens name)
+flag_shows name true = word_gives name
+flag_shows name false = nothing_gives
 
 -- a name
 pub name_shows : Shows IsName word

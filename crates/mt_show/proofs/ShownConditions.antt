@@ -1,5 +1,5 @@
 -- Conditions are shown with the brackets that the same tree needs.
-use Rattle.std.proofs.Common.{◌≡◌, ℕ, zero, suc, Bool, true, false, List, [], ◌∷◌, ◌++◌, map, refl, sym, ap, ◌∙◌, subst, append_assoc, inl, inr}
+use Rattle.std.proofs.Common.{◌≡◌, ℕ, zero, suc, Bool, List, [], ◌∷◌, ◌++◌, map, refl, sym, ap, ◌∙◌, subst, append_assoc, inl, inr}
 use Rattle.std.specs.List.{All}
 use Rattle.std.specs.Prelude.{codes}
 use Rattle.mt_lexer.specs.Tokens.{Lexeme, Word, Sign}
@@ -10,13 +10,12 @@ use Rattle.mt_tree.specs.declared.expression.Cond.{Cond}
 use Rattle.mt_tree.specs.declared.expression.Cond.TheVariants as cond
 use Rattle.mt_reader.specs.Forms.{Form, Joined, Bracketed, Behind, word}
 use Rattle.mt_terms.specs.Expression.{SpellsAtom}
-use Rattle.mt_terms.specs.Condition.{comparison_symbol, SpellsNot, AtomThen, NotThen, WordThen, SpellsPlain, SpellsNegated, SpellsOr, SpellsNeg, SpellsCond}
+use Rattle.mt_terms.specs.Condition.{comparison_symbol, AtomThen, NotThen, WordThen, SpellsPlain, SpellsNegated, SpellsOr, SpellsNeg, SpellsCond}
 use Rattle.mt_show.specs.Text.{IsWritten}
-use Rattle.mt_show.specs.Shown.{never_bracketed, between, atom_tokens, not_tokens, cond_places, cond_tokens}
-use Rattle.mt_show.specs.Printing.{comparison_tokens, membership_tokens, range_tokens, likeness_tokens, null_test_tokens}
+use Rattle.mt_show.specs.Shown.{never_bracketed, between, atom_tokens, not_tokens, cond_places, cond_tokens, comparison_tokens, membership_tokens, range_tokens, likeness_tokens, null_test_tokens}
 use Rattle.mt_show.proofs.Levels.{places_or, places_and, places_not, places_comparison, places_membership, places_range, places_likeness, places_null_test}
-use Rattle.mt_show.proofs.ShownForms.{Prints, Gives, Shows, Grows, nothing_gives, written_inside, parts_give, bracketed_shows, behind_shows, separated_shows, bracketed_grows, behind_grows, joined_grows, written_one}
-use Rattle.mt_show.proofs.ShownAtoms.{keyword, one_word, word_gives, atom_shows}
+use Rattle.mt_show.proofs.ShownForms.{Prints, Gives, Shows, Grows, written_inside, parts_give, bracketed_shows, behind_shows, separated_shows, bracketed_grows, behind_grows, joined_grows, written_one}
+use Rattle.mt_show.proofs.ShownAtoms.{keyword, one_word, flag_shows, word_gives, atom_shows}
 use Rattle.mt_show.proofs.ShownLevels.{At, at_never, at_inside, at_member, at_grows, many_shows}
 
 -- what is shown of a condition as a member of an AND
@@ -35,11 +34,6 @@ record IsPlainShown (c : Cond) : Type 0 where
   pub places : cond_places c ≡ never_bracketed tokens
   pub gives : Gives (λ tokens. SpellsPlain tokens c) tokens
 
--- NOT, where it is written
-not_shows : Shows SpellsNot not_tokens
-not_shows true = word_gives (codes "not")
-not_shows false = nothing_gives
-
 -- an atom and more
 atom_then : (a : Atom) {more : List Lexeme → Type 0} (shown : List Lexeme) → Gives more shown → Gives (AtomThen a more) (atom_tokens a ++ shown)
 atom_then a shown gives = parts_give (atom_tokens a) shown (atom_shows a) gives
@@ -48,7 +42,7 @@ atom_then a shown gives = parts_give (atom_tokens a) shown (atom_shows a) gives
 not_then : (a : Atom) (negated : Bool) {more : List Lexeme → Type 0} (shown : List Lexeme) → Gives more shown → Gives (AtomThen a (NotThen negated more)) (atom_tokens a ++ not_tokens negated ++ shown)
 not_then a negated {more} shown gives =
     subst (Gives (AtomThen a (NotThen negated more))) (sym (append_assoc (atom_tokens a) (not_tokens negated) shown))
-    (atom_then a (not_tokens negated ++ shown) (parts_give (not_tokens negated) shown (not_shows negated) gives))
+    (atom_then a (not_tokens negated ++ shown) (parts_give (not_tokens negated) shown (flag_shows (codes "not") negated) gives))
 
 -- a word and more
 word_then : (name : List ℕ) {more : List Lexeme → Type 0} (shown : List Lexeme) → Gives more shown → Gives (WordThen name more) (Word name ∷ shown)
@@ -95,7 +89,7 @@ null_shown : (negated : Bool) (a : Atom) → IsPlainShown (cond.IsNull negated a
 null_shown negated a = record {
   tokens = null_test_tokens negated a;
   places = places_null_test negated a;
-  gives = atom_then a _ (word_then (codes "is") _ (parts_give _ _ (not_shows negated) (word_gives (codes "null"))));
+  gives = atom_then a _ (word_then (codes "is") _ (parts_give _ _ (flag_shows (codes "not") negated) (word_gives (codes "null"))));
 }
 
 -- a predicate

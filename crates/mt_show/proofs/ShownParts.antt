@@ -5,14 +5,14 @@ use Rattle.mt_lexer.specs.Tokens.{Lexeme, Word, Number, Sign}
 use Rattle.mt_lexer.specs.declared.token.Symbol.TheVariants as symbol
 use Rattle.mt_tree.specs.declared.statement.Ref.{Ref}
 use Rattle.mt_tree.specs.declared.statement.OrderBy.TheVariants.{Name, Position}
-use Rattle.mt_reader.specs.Forms.{Form, Commas, Behind, Maybe, MaybeList, Flag, word}
+use Rattle.mt_reader.specs.Forms.{Form, Commas, Behind, Maybe, MaybeList, word}
 use Rattle.mt_reader.specs.Names.{IsName}
 use Rattle.mt_terms.specs.Expression.{SpellsColumn}
 use Rattle.mt_terms.specs.Condition.{SpellsCond}
 use Rattle.mt_statements.specs.Query.{SpellsItem, SpellsItems, SpellsAlias, SpellsTable, SpellsFollowing, SpellsMore, SpellsRefs, SpellsBy, SpellsDirection, SpellsKey, SpellsNumber}
 use Rattle.mt_show.specs.Text.{IsWritten}
-use Rattle.mt_show.specs.Shown.{column_tokens, cond_tokens, expr_tokens}
-use Rattle.mt_show.specs.Statements.{listed, clause_tokens, as_tokens, item_tokens, items_tokens, table_tokens, following_tokens, refs_tokens, group_tokens, by_tokens, direction_tokens, key_tokens, order_tokens, limit_tokens, distinct_tokens}
+use Rattle.mt_show.specs.Shown.{column_tokens, cond_tokens, expr_tokens, flag_tokens}
+use Rattle.mt_show.specs.Statements.{listed, clause_tokens, as_tokens, item_tokens, items_tokens, table_tokens, following_tokens, refs_tokens, group_tokens, by_tokens, key_tokens, order_tokens, limit_tokens}
 use Rattle.mt_show.proofs.ShownForms.{Shows, nothing_gives, All-back, parts_give, behind_shows, separated_shows, written_one}
 use Rattle.mt_show.proofs.ShownAtoms.{is_plain, one_word, two_words, word_gives, name_shows, column_shows}
 use Rattle.mt_show.proofs.ShownExpressions.{expr_shows}
@@ -35,11 +35,6 @@ module _ {T : Type 0} {form : Form T} (shown : T → List Lexeme) (shows : Shows
 pub clause_shows : (name : List ℕ) → is_plain name ≡ true → Shows (Maybe (Behind (word name) SpellsCond)) (clause_tokens name)
 clause_shows name plain None = nothing_gives
 clause_shows name plain (Some cond) = word_shows cond_tokens cond_shows name plain cond
-
--- DISTINCT, where it is written
-pub distinct_shows : Shows (Flag (word (codes "distinct"))) distinct_tokens
-distinct_shows true = word_gives (codes "distinct")
-distinct_shows false = nothing_gives
 
 -- a name behind AS
 as_shows : Shows (Behind (word (codes "as")) IsName) (λ name. Word (codes "as") ∷ word name)
@@ -111,13 +106,13 @@ by_shows (Name name) = name_shows name
 by_shows (Position n) = number_shows n
 
 -- its direction
-direction_shows : Shows SpellsDirection direction_tokens
+direction_shows : Shows SpellsDirection (flag_tokens (codes "desc"))
 direction_shows true = word_gives (codes "desc")
 direction_shows false = λ tokens w s. (inl refl, All-nil IsWritten)
 
 -- a key
 key_shows : Shows SpellsKey key_tokens
-key_shows key = parts_give (by_tokens key.by) (direction_tokens key.desc) (by_shows key.by) (direction_shows key.desc)
+key_shows key = parts_give (by_tokens key.by) (flag_tokens (codes "desc") key.desc) (by_shows key.by) (direction_shows key.desc)
 
 -- the keys of ORDER BY, where it is written
 pub order_shows : Shows (MaybeList (Behind (Word (codes "order") ∷ Word (codes "by") ∷ []) (Commas SpellsKey))) order_tokens

@@ -5,10 +5,11 @@ use Rattle.std.specs.List.{All}
 use Rattle.mt_lexer.specs.Tokens.{Lexeme, Word}
 use Rattle.mt_statements.specs.Query.{SpellsSelect}
 use Rattle.mt_show.specs.Text.{IsWritten}
-use Rattle.mt_show.specs.Statements.{clause_tokens, items_tokens, refs_tokens, group_tokens, order_tokens, limit_tokens, distinct_tokens, select_tokens}
+use Rattle.mt_show.specs.Shown.{flag_tokens}
+use Rattle.mt_show.specs.Statements.{clause_tokens, items_tokens, refs_tokens, group_tokens, order_tokens, limit_tokens, select_tokens}
 use Rattle.mt_show.proofs.ShownForms.{Shows, All-both, All-behind, written_between}
-use Rattle.mt_show.proofs.ShownAtoms.{keyword}
-use Rattle.mt_show.proofs.ShownParts.{clause_shows, distinct_shows, items_show, refs_show, group_shows, order_shows, limit_shows}
+use Rattle.mt_show.proofs.ShownAtoms.{keyword, flag_shows}
+use Rattle.mt_show.proofs.ShownParts.{clause_shows, items_show, refs_show, group_shows, order_shows, limit_shows}
 
 -- each of the tokens can be written
 abbrev Written : List Lexeme → Type 0
@@ -44,7 +45,7 @@ select_shows select tokens w s =
     let fourth = All-both IsWritten (s.refs ++ s.condition ++ s.group) s.having fifth.0 in
     let third = All-both IsWritten (s.refs ++ s.condition) s.group fourth.0 in
     let second = All-both IsWritten s.refs s.condition third.0 in
-    let distinct = distinct_shows select.distinct s.distinct first.0 s.is_distinct in
+    let distinct = flag_shows (codes "distinct") select.distinct s.distinct first.0 s.is_distinct in
     let items = items_show select.items s.items first.1 s.are_items in
     let refs = refs_show select.refs s.refs second.0 s.are_refs in
     let condition = clause_shows (codes "where") refl select.cond s.condition second.1 s.is_condition in
@@ -53,7 +54,7 @@ select_shows select tokens w s =
     let order = order_shows select.order s.order fifth.1 s.is_order in
     let limit = limit_shows select.limit s.limit sixth.1 s.is_limit in (
       record {
-        distinct = distinct_tokens select.distinct;
+        distinct = flag_tokens (codes "distinct") select.distinct;
         items = items_tokens select.items;
         refs = refs_tokens select.refs;
         condition = clause_tokens (codes "where") select.cond;
@@ -71,6 +72,6 @@ select_shows select tokens w s =
         is_order = order.0;
         is_limit = limit.0;
       },
-      parts_written (distinct_tokens select.distinct) (items_tokens select.items) _ distinct.1 items.1
+      parts_written (flag_tokens (codes "distinct") select.distinct) (items_tokens select.items) _ distinct.1 items.1
           (behind_written (refs_tokens select.refs) (clause_tokens (codes "where") select.cond) (group_tokens select.group) (clause_tokens (codes "having") select.having) (order_tokens select.order) (limit_tokens select.limit) refs.1 condition.1 group.1 having.1 order.1 limit.1),
     )

@@ -2,6 +2,7 @@
 use Rattle.std.specs.Prelude.{ℕ, suc, Bool, true, false, List, [], ◌∷◌, ◌++◌, map, flat_map, Option, Some, None, ℤ, pos, negsuc, codes}
 use Rattle.mt_lexer.specs.Tokens.{Lexeme, Word, Number, Quoted, Sign}
 use Rattle.mt_lexer.specs.declared.token.Symbol.TheVariants as symbol
+use Rattle.mt_value.specs.declared.truth.Cmp.{Cmp}
 use Rattle.mt_tree.specs.declared.name.ColName.{ColName}
 use Rattle.mt_tree.specs.declared.expression.Literal.{Literal}
 use Rattle.mt_tree.specs.declared.expression.Literal.TheVariants.{Null, Int, Text}
@@ -111,21 +112,45 @@ expr_places e = fold-Expr Places (Bool × Places) expr_places_step term_places_s
 abbrev pub expr_tokens : Expr → List Lexeme
 expr_tokens e = (expr_places e).whole
 
+-- a word, where the flag is set
+abbrev pub flag_tokens : List ℕ → Bool → List Lexeme
+flag_tokens name true = word name
+flag_tokens name false = []
+
 -- NOT, where the predicate is negated
 abbrev pub not_tokens : Bool → List Lexeme
-not_tokens true = word (codes "not")
-not_tokens false = []
+not_tokens negated = flag_tokens (codes "not") negated
+
+-- two atoms with a comparison between
+abbrev pub comparison_tokens : Cmp → Atom → Atom → List Lexeme
+comparison_tokens op left right = atom_tokens left ++ Sign (comparison_symbol op) ∷ atom_tokens right
+
+-- an atom, and that it is one of a list
+abbrev pub membership_tokens : Bool → Atom → List Atom → List Lexeme
+membership_tokens negated atom list = atom_tokens atom ++ not_tokens negated ++ Word (codes "in") ∷ bracketed (between (Sign symbol.Comma) (map atom_tokens list))
+
+-- an atom, and that it lies between two others
+abbrev pub range_tokens : Bool → Atom → Atom → Atom → List Lexeme
+range_tokens negated atom low high = atom_tokens atom ++ not_tokens negated ++ Word (codes "between") ∷ (atom_tokens low ++ Word (codes "and") ∷ atom_tokens high)
+
+-- an atom, and that it is like a pattern
+abbrev pub likeness_tokens : Bool → Atom → Atom → List Lexeme
+likeness_tokens negated atom pattern = atom_tokens atom ++ not_tokens negated ++ Word (codes "like") ∷ atom_tokens pattern
+
+-- an atom, and that it is NULL
+abbrev pub null_test_tokens : Bool → Atom → List Lexeme
+null_test_tokens negated atom = atom_tokens atom ++ Word (codes "is") ∷ (not_tokens negated ++ word (codes "null"))
 
 -- one level of a condition
 abbrev pub cond_places_step : Cond-F Places → Places
 cond_places_step (Cond-F.Or members) = bracketed_as_member (between (Word (codes "or")) (map (λ member. member.outer) members))
 cond_places_step (Cond-F.And members) = bracketed_inside (between (Word (codes "and")) (map (λ member. member.inner) members))
 cond_places_step (Cond-F.Not inner) = never_bracketed (Word (codes "not") ∷ inner.inner)
-cond_places_step (Cond-F.Compare op left right) = never_bracketed (atom_tokens left ++ Sign (comparison_symbol op) ∷ atom_tokens right)
-cond_places_step (Cond-F.Member negated atom list) = never_bracketed (atom_tokens atom ++ not_tokens negated ++ Word (codes "in") ∷ bracketed (between (Sign symbol.Comma) (map atom_tokens list)))
-cond_places_step (Cond-F.Between negated atom low high) = never_bracketed (atom_tokens atom ++ not_tokens negated ++ Word (codes "between") ∷ (atom_tokens low ++ Word (codes "and") ∷ atom_tokens high))
-cond_places_step (Cond-F.Like negated atom pattern) = never_bracketed (atom_tokens atom ++ not_tokens negated ++ Word (codes "like") ∷ atom_tokens pattern)
-cond_places_step (Cond-F.IsNull negated atom) = never_bracketed (atom_tokens atom ++ Word (codes "is") ∷ (not_tokens negated ++ word (codes "null")))
+cond_places_step (Cond-F.Compare op left right) = never_bracketed (comparison_tokens op left right)
+cond_places_step (Cond-F.Member negated atom list) = never_bracketed (membership_tokens negated atom list)
+cond_places_step (Cond-F.Between negated atom low high) = never_bracketed (range_tokens negated atom low high)
+cond_places_step (Cond-F.Like negated atom pattern) = never_bracketed (likeness_tokens negated atom pattern)
+cond_places_step (Cond-F.IsNull negated atom) = never_bracketed (null_test_tokens negated atom)
 
 -- a condition by its place
 unfoldable pub cond_places : Cond → Places

@@ -1,6 +1,6 @@
 -- The tokens that a statement is printed with: AS where there is an alias or an output name, no
 -- INNER, no ASC, and no semicolon.
-use Rattle.std.specs.Prelude.{ℕ, Bool, true, false, List, [], ◌∷◌, ◌++◌, map, flat_map, Option, Some, None, codes}
+use Rattle.std.specs.Prelude.{ℕ, List, [], ◌∷◌, ◌++◌, map, flat_map, Option, Some, None, codes}
 use Rattle.mt_lexer.specs.Tokens.{Lexeme, Word, Number, Sign}
 use Rattle.mt_lexer.specs.declared.token.Symbol.TheVariants as symbol
 use Rattle.mt_tree.specs.declared.name.ColName.{ColName}
@@ -20,7 +20,7 @@ use Rattle.mt_tree.specs.declared.statement.SetItem.{SetItem}
 use Rattle.mt_tree.specs.declared.statement.Filter.{Filter}
 use Rattle.mt_show.specs.Text.{text_of}
 use Rattle.mt_reader.specs.Forms.{word}
-use Rattle.mt_show.specs.Shown.{between, bracketed, literal_tokens, column_tokens, expr_tokens, cond_tokens}
+use Rattle.mt_show.specs.Shown.{between, bracketed, flag_tokens, literal_tokens, column_tokens, expr_tokens, cond_tokens}
 
 -- with commas between
 abbrev pub listed : List (List Lexeme) → List Lexeme
@@ -69,14 +69,9 @@ abbrev pub by_tokens : OrderBy → List Lexeme
 by_tokens (Name name) = word name
 by_tokens (Position n) = Number n ∷ []
 
--- DESC, where it is descending
-abbrev pub direction_tokens : Bool → List Lexeme
-direction_tokens true = word (codes "desc")
-direction_tokens false = []
-
--- a key of ORDER BY
+-- a key of ORDER BY, with DESC where it is descending
 abbrev pub key_tokens : OrderKey → List Lexeme
-key_tokens key = by_tokens key.by ++ direction_tokens key.desc
+key_tokens key = by_tokens key.by ++ flag_tokens (codes "desc") key.desc
 
 -- ORDER BY and keys, where there are any
 abbrev pub order_tokens : List OrderKey → List Lexeme
@@ -88,16 +83,14 @@ abbrev pub limit_tokens : Option ℕ → List Lexeme
 limit_tokens None = []
 limit_tokens (Some n) = Word (codes "limit") ∷ Number n ∷ []
 
--- DISTINCT, where the flag is set
-abbrev pub distinct_tokens : Bool → List Lexeme
-distinct_tokens true = word (codes "distinct")
-distinct_tokens false = []
+-- what stands behind FROM
+abbrev pub source_tokens : Select → List Lexeme
+source_tokens select =
+    refs_tokens select.refs ++ clause_tokens (codes "where") select.cond ++ group_tokens select.group ++ clause_tokens (codes "having") select.having ++ order_tokens select.order ++ limit_tokens select.limit
 
 -- a SELECT
 abbrev pub select_tokens : Select → List Lexeme
-select_tokens select =
-    Word (codes "select") ∷ (distinct_tokens select.distinct ++ items_tokens select.items ++ Word (codes "from") ∷ (refs_tokens select.refs
-    ++ clause_tokens (codes "where") select.cond ++ group_tokens select.group ++ clause_tokens (codes "having") select.having ++ order_tokens select.order ++ limit_tokens select.limit))
+select_tokens select = Word (codes "select") ∷ (flag_tokens (codes "distinct") select.distinct ++ items_tokens select.items ++ Word (codes "from") ∷ source_tokens select)
 
 -- a tuple
 abbrev pub tuple_tokens : List Literal → List Lexeme

@@ -1,8 +1,8 @@
 //! The printing of statements in their one spelling. It promises that what is printed of a statement
-//! that has a reading reads as the same tree.
+//! that has a reading reads as the same tree: the tokens that are printed spell it, and the text of
+//! them is read as the same tokens.
 #![tactic(auto)]
 
-mod laws;
 mod part;
 mod place;
 mod printer;
@@ -10,8 +10,6 @@ mod printing;
 mod statement;
 mod terms;
 
-pub use laws::{printed_tokens_are_read, shown_statements_are_spelled};
-pub use printer::Printer;
 pub use printing::show;
 
 #[cfg(test)]

@@ -3,11 +3,12 @@
 ghost use Rattle.std.specs.Prelude.{◌≡◌, ◌∷◌, [], ◌++◌, List, map, OnOk};
 ghost use Rattle.mt_lexer.specs.Tokens.{Lexeme, Word, Sign};
 ghost use Rattle.mt_show.specs.Spaced.{spaced};
+ghost use Rattle.mt_show.specs.Shown.{flag_tokens};
 ghost use Rattle.mt_show.specs.Printing.{where_needed, before_others};
 ghost use Rattle.mt_show.specs.Statements.{listed};
 
-use mt_lexer::Symbol;
 use crate::printer::Printer;
+use mt_lexer::Symbol;
 use std::alloc::AllocError;
 
 /// A part of a statement, as a member of a list.
@@ -53,6 +54,16 @@ pub(crate) fn word_between(
     ensures { OnOk result (printer.new ≡ printer.old ++ spaced (before_others index (Word word.now))) }
 {
     if index == 0 {
+        return Ok(());
+    }
+    printer.word(word)
+}
+
+/// Prints a word, where the flag is set.
+pub(crate) fn flag(printer: &mut Printer, is_set: bool, word: &str) -> Result<(), AllocError>
+    ensures { OnOk result (printer.new ≡ printer.old ++ spaced (flag_tokens word.now is_set)) }
+{
+    if !is_set {
         return Ok(());
     }
     printer.word(word)

@@ -12,7 +12,7 @@ use std::marker::Model;
 
 /// Collects tokens as text. Contracts see the bytes so far: for each token a space and its text.
 #[derive(Debug, Drop)]
-pub struct Printer {
+pub(crate) struct Printer {
     text: String,
 }
 

@@ -2,14 +2,13 @@
 
 ghost use Rattle.std.specs.Prelude.{◌≡◌, ◌++◌, flat_map, IfOk, OnOk};
 ghost use Rattle.mt_show.specs.Spaced.{spaced};
-ghost use Rattle.mt_show.specs.Printing.{clauses_tokens};
-ghost use Rattle.mt_show.specs.Statements.{clause_tokens, as_tokens, items_tokens, table_tokens, following_tokens, refs_tokens, group_tokens, by_tokens, direction_tokens, order_tokens, limit_tokens, distinct_tokens, select_tokens, columns_tokens, insert_tokens, update_tokens, filter_tokens, statement_tokens, statement_text};
+ghost use Rattle.mt_show.specs.Statements.{clause_tokens, as_tokens, items_tokens, table_tokens, following_tokens, refs_tokens, group_tokens, by_tokens, order_tokens, limit_tokens, source_tokens, select_tokens, columns_tokens, insert_tokens, update_tokens, filter_tokens, statement_tokens, statement_text};
 
-use crate::part::{Part, listed};
+use crate::part::{Part, flag, listed};
 use crate::place::Place;
+use crate::printer::Printer;
 use crate::terms::{condition, expression};
 use mt_lexer::Symbol;
-use crate::printer::Printer;
 use mt_tree::{
     ColName, Cond, Filter, Insert, Item, OrderBy, OrderKey, Ref, Select, SetItem, Stmt, Tuple,
     Update,
@@ -17,8 +16,7 @@ use mt_tree::{
 use mt_value::Str;
 use std::alloc::{AllocError, Global};
 
-/// Prints a statement in its one spelling: tokens with one space between, reserved words in upper
-/// case, brackets only where the tree needs them. `AllocError` is want of memory.
+/// The text of a statement. `AllocError` is want of memory.
 pub(crate) fn print(alloc: Global, statement: &Stmt) -> Result<Str, AllocError>
     ensures { IfOk result (λ text. text ≡ statement_text statement.now) }
 {
@@ -56,32 +54,22 @@ fn query(printer: &mut Printer, select: &Select) -> Result<(), AllocError>
     ensures { OnOk result (printer.new ≡ printer.old ++ spaced (select_tokens select.now)) }
 {
     printer.word("select")?;
-    distinct(printer, select.distinct)?;
+    flag(printer, select.distinct, "distinct")?;
     items(printer, select.items.as_slice())?;
     printer.word("from")?;
-    refs(printer, select.refs.as_slice())?;
-    clauses(printer, select)
+    source(printer, select)
 }
 
-/// Prints what stands behind the table references of a SELECT.
-fn clauses(printer: &mut Printer, select: &Select) -> Result<(), AllocError>
-    ensures { OnOk result (printer.new ≡ printer.old ++ spaced (clauses_tokens select.now)) }
+/// Prints what stands behind FROM.
+fn source(printer: &mut Printer, select: &Select) -> Result<(), AllocError>
+    ensures { OnOk result (printer.new ≡ printer.old ++ spaced (source_tokens select.now)) }
 {
+    refs(printer, select.refs.as_slice())?;
     clause(printer, "where", &select.cond)?;
     group(printer, select.group.as_slice())?;
     clause(printer, "having", &select.having)?;
     order(printer, select.order.as_slice())?;
     limit(printer, select.limit)
-}
-
-/// Prints DISTINCT, where it is set.
-fn distinct(printer: &mut Printer, is_set: bool) -> Result<(), AllocError>
-    ensures { OnOk result (printer.new ≡ printer.old ++ spaced (distinct_tokens is_set)) }
-{
-    if !is_set {
-        return Ok(());
-    }
-    printer.word("distinct")
 }
 
 /// Prints the items of a SELECT, or a star where there are none.
@@ -209,7 +197,7 @@ impl Part for OrderKey {
 
     fn print(&self, printer: &mut Printer) -> Result<(), AllocError> {
         output(printer, &self.by)?;
-        direction(printer, self.desc)
+        flag(printer, self.desc, "desc")
     }
 }
 
@@ -221,16 +209,6 @@ fn output(printer: &mut Printer, by: &OrderBy) -> Result<(), AllocError>
         OrderBy::Name(name) => printer.word(name.as_str()),
         OrderBy::Position(position) => printer.number(*position),
     }
-}
-
-/// Prints DESC, where it is set.
-fn direction(printer: &mut Printer, desc: bool) -> Result<(), AllocError>
-    ensures { OnOk result (printer.new ≡ printer.old ++ spaced (direction_tokens desc)) }
-{
-    if !desc {
-        return Ok(());
-    }
-    printer.word("desc")
 }
 
 /// Prints LIMIT, if there is one.

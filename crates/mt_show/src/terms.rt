@@ -6,14 +6,14 @@ ghost use Rattle.mt_lexer.specs.declared.token.Symbol.TheVariants as symbol;
 ghost use Rattle.mt_show.specs.Spaced.{spaced};
 ghost use Rattle.mt_terms.specs.Expression.{sign_of};
 ghost use Rattle.mt_terms.specs.Condition.{comparison_symbol};
-ghost use Rattle.mt_show.specs.Printing.{placed, comparison_tokens, membership_tokens, range_tokens, likeness_tokens, null_test_tokens};
+ghost use Rattle.mt_show.specs.Printing.{placed};
 ghost use Rattle.mt_show.specs.declared.place.Place.TheVariants.{Inner};
-ghost use Rattle.mt_show.specs.Shown.{between, bracketed, int_tokens, column_tokens, agg_tokens, expr_places, sum_tokens, cond_places, not_tokens};
+ghost use Rattle.mt_show.specs.Shown.{between, bracketed, int_tokens, column_tokens, agg_tokens, expr_places, sum_tokens, cond_places, comparison_tokens, membership_tokens, range_tokens, likeness_tokens, null_test_tokens};
 
-use crate::part::{Part, bracket, listed, symbol_between, word_between};
+use crate::part::{Part, bracket, flag, listed, symbol_between, word_between};
 use crate::place::Place;
-use mt_lexer::Symbol;
 use crate::printer::Printer;
+use mt_lexer::Symbol;
 use mt_tree::{Agg, Atom, ColName, Cond, Expr, Literal, Term};
 use mt_value::Cmp;
 use std::alloc::AllocError;
@@ -231,7 +231,7 @@ fn membership(
     ensures { OnOk result (printer.new ≡ printer.old ++ spaced (membership_tokens negated atom.now list.now)) }
 {
     atom.print(printer)?;
-    negation(printer, negated)?;
+    flag(printer, negated, "not")?;
     printer.word("in")?;
     printer.symbol(Symbol::Open)?;
     listed(printer, list)?;
@@ -249,7 +249,7 @@ fn range(
     ensures { OnOk result (printer.new ≡ printer.old ++ spaced (range_tokens negated atom.now low.now high.now)) }
 {
     atom.print(printer)?;
-    negation(printer, negated)?;
+    flag(printer, negated, "not")?;
     printer.word("between")?;
     low.print(printer)?;
     printer.word("and")?;
@@ -266,7 +266,7 @@ fn likeness(
     ensures { OnOk result (printer.new ≡ printer.old ++ spaced (likeness_tokens negated atom.now pattern.now)) }
 {
     atom.print(printer)?;
-    negation(printer, negated)?;
+    flag(printer, negated, "not")?;
     printer.word("like")?;
     pattern.print(printer)
 }
@@ -277,18 +277,8 @@ fn null_test(printer: &mut Printer, negated: bool, atom: &Atom) -> Result<(), Al
 {
     atom.print(printer)?;
     printer.word("is")?;
-    negation(printer, negated)?;
+    flag(printer, negated, "not")?;
     printer.word("null")
-}
-
-/// Prints NOT, where a predicate is negated.
-fn negation(printer: &mut Printer, negated: bool) -> Result<(), AllocError>
-    ensures { OnOk result (printer.new ≡ printer.old ++ spaced (not_tokens negated)) }
-{
-    if !negated {
-        return Ok(());
-    }
-    printer.word("not")
 }
 
 /// How a comparison is written.

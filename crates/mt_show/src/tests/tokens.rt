@@ -1,79 +1,32 @@
-use crate::{Printer, printed_tokens_are_read};
+use crate::printer::Printer;
 use mt_lexer::Symbol;
 use mt_value::Str;
-use std::alloc::Global;
 use std::test::Fail;
-
-/// A token to be printed.
-#[derive(Clone, Copy)]
-enum Token {
-    Word(&'static str),
-    Number(u64),
-    Quoted(&'static str),
-    Sign(Symbol),
-}
-
-/// The text of these tokens.
-fn printed(alloc: Global, tokens: &[Token]) -> Result<Str, Fail> {
-    let mut printer = Printer::new(alloc);
-    for token in tokens {
-        match *token {
-            Token::Word(word) => printer.word(word)?,
-            Token::Number(number) => printer.number(number)?,
-            Token::Quoted(text) => {
-                let text = Str::from_bytes(alloc, text.as_bytes())?;
-                printer.quoted(&text)?
-            }
-            Token::Sign(symbol) => printer.symbol(symbol)?,
-        }
-    }
-    Ok(printer.finish()?)
-}
-
-#[test]
-fn prints_one_token(rt: HostRuntime) -> Result<(), Fail> {
-    printed_tokens_are_read();
-    let table = [
-        (Token::Word("select"), "SELECT"),
-        (Token::Word("where"), "WHERE"),
-        (Token::Word("Select"), "Select"),
-        (Token::Word("selects"), "selects"),
-        (Token::Word("aid_2"), "aid_2"),
-        (Token::Number(0), "0"),
-        (
-            Token::Number(18_446_744_073_709_551_615),
-            "18446744073709551615",
-        ),
-        (Token::Quoted(""), "''"),
-        (Token::Quoted("it's"), "'it''s'"),
-        (Token::Quoted("''"), "''''''"),
-        (Token::Quoted("zoë, 'x'"), "'zoë, ''x'''"),
-        (Token::Sign(Symbol::Comma), ","),
-        (Token::Sign(Symbol::NotEqual), "<>"),
-        (Token::Sign(Symbol::LessEqual), "<="),
-        (Token::Sign(Symbol::Greater), ">"),
-    ];
-    for (token, want) in table {
-        let got = printed(rt.alloc(), &[token])?;
-        assert_eq!(rt; got.as_str(), want);
-    }
-    Ok(())
-}
 
 #[test]
 fn prints_one_space_between(rt: HostRuntime) -> Result<(), Fail> {
     let alloc = rt.alloc();
-    assert_eq!(rt; printed(alloc, &[])?.as_str(), "");
-    let tokens = [
-        Token::Word("count"),
-        Token::Sign(Symbol::Open),
-        Token::Sign(Symbol::Star),
-        Token::Sign(Symbol::Close),
-        Token::Sign(Symbol::Less),
-        Token::Sign(Symbol::Minus),
-        Token::Number(7),
-        Token::Quoted(" "),
-    ];
-    assert_eq!(rt; printed(alloc, &tokens)?.as_str(), "COUNT ( * ) < - 7 ' '");
+    assert_eq!(rt; Printer::new(alloc).finish()?.as_str(), "");
+    let mut printer = Printer::new(alloc);
+    for word in ["select", "count", "Select", "selects", "aid_2"] {
+        printer.word(word)?;
+    }
+    for symbol in [
+        Symbol::Open,
+        Symbol::NotEqual,
+        Symbol::LessEqual,
+        Symbol::Minus,
+    ] {
+        printer.symbol(symbol)?;
+    }
+    for text in ["", "it's", "''", "zoë, 'x'"] {
+        printer.quoted(&Str::from_bytes(alloc, text.as_bytes())?)?;
+    }
+    printer.number(0)?;
+    printer.number(18_446_744_073_709_551_615)?;
+    assert_eq!(rt;
+        printer.finish()?.as_str(),
+        "SELECT COUNT Select selects aid_2 ( <> <= - '' 'it''s' '''''' 'zoë, ''x''' 0 18446744073709551615"
+    );
     Ok(())
 }
