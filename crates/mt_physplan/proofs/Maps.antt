@@ -44,7 +44,7 @@ module _ {K V : Type 0} (R : K → K → Ordering) where
   pub own_entries : IsTotalOrder R → finite.IsAntisymmetric R → (es : List (K × V)) → IsStrictlySortedBy R (keys_of es) → es ≡ finite.entries (finite.from_entries {R = R} es)
   own_entries o exact es up =
       same_entries R o exact es (finite.entries (finite.from_entries es)) (sorted_from es up) (finite.entries_sorted (finite.from_entries es))
-        (λ q. sym (finite.get-from_entries o es q) ∙ finite.get-entries (finite.from_entries es) q)
+      (λ q. sym (finite.get-from_entries o es q) ∙ finite.get-entries (finite.from_entries es) q)
 
   pub looked_up : (es : List (K × V)) (q : K) → find R q es ≡ lookup (is_at (R q)) es
   looked_up [] q = refl

@@ -1,6 +1,6 @@
 pub mod Content
 pub mod Counts
-pub mod Changed
+pub mod Applied
 pub mod Keys
 pub mod Listed
 pub mod Phys

@@ -18,17 +18,17 @@ with_mark mark key None content = content
 with_mark mark key (Some cell) content = finite.insert content key (record { mark = mark; values = cell.values })
 
 -- the slots after one change; a put takes the place of a slot with its key
-abbrev pub changed_by : Change → Content → Content
-changed_by (Put table slot) content = finite.insert content (key_in table slot) (cell_of slot)
-changed_by (Mark table tenant row mark) content = with_mark mark (conventional_key table tenant row) (finite.get content (conventional_key table tenant row)) content
-changed_by (Remove table tenant base chunk row) content = finite.remove content (record { table = table; tenant = tenant; base = base; chunk = chunk; row = row })
-changed_by (PutCat table body) content = content
-changed_by (RemoveCat table body) content = content
+abbrev pub applied_by : Change → Content → Content
+applied_by (Put table slot) content = finite.insert content (key_in table slot) (cell_of slot)
+applied_by (Mark table tenant row mark) content = with_mark mark (conventional_key table tenant row) (finite.get content (conventional_key table tenant row)) content
+applied_by (Remove table tenant base chunk row) content = finite.remove content (record { table = table; tenant = tenant; base = base; chunk = chunk; row = row })
+applied_by (PutCat table body) content = content
+applied_by (RemoveCat table body) content = content
 
 -- the slots after all changes
-abbrev pub changed : List Change → Content → Content
-changed [] content = content
-changed (change ∷ changes) content = changed changes (changed_by change content)
+abbrev pub applied : List Change → Content → Content
+applied [] content = content
+applied (change ∷ changes) content = applied changes (applied_by change content)
 
 -- slots of the catalogue by table, and then by their bodies
 abbrev pub body_cmp : ℕ × List ℕ → ℕ × List ℕ → Ordering
@@ -39,14 +39,14 @@ abbrev pub Catalogue : Type 0
 Catalogue = set.FinSet body_cmp
 
 -- the catalogue after one change
-abbrev pub catalogue_changed_by : Change → Catalogue → Catalogue
-catalogue_changed_by (PutCat table body) catalogue = set.insert catalogue (table, body)
-catalogue_changed_by (RemoveCat table body) catalogue = set.remove catalogue (table, body)
-catalogue_changed_by (Put table slot) catalogue = catalogue
-catalogue_changed_by (Mark table tenant row mark) catalogue = catalogue
-catalogue_changed_by (Remove table tenant base chunk row) catalogue = catalogue
+abbrev pub catalogue_applied_by : Change → Catalogue → Catalogue
+catalogue_applied_by (PutCat table body) catalogue = set.insert catalogue (table, body)
+catalogue_applied_by (RemoveCat table body) catalogue = set.remove catalogue (table, body)
+catalogue_applied_by (Put table slot) catalogue = catalogue
+catalogue_applied_by (Mark table tenant row mark) catalogue = catalogue
+catalogue_applied_by (Remove table tenant base chunk row) catalogue = catalogue
 
 -- the catalogue after all changes
-abbrev pub catalogue_changed : List Change → Catalogue → Catalogue
-catalogue_changed [] catalogue = catalogue
-catalogue_changed (change ∷ changes) catalogue = catalogue_changed changes (catalogue_changed_by change catalogue)
+abbrev pub catalogue_applied : List Change → Catalogue → Catalogue
+catalogue_applied [] catalogue = catalogue
+catalogue_applied (change ∷ changes) catalogue = catalogue_applied changes (catalogue_applied_by change catalogue)
