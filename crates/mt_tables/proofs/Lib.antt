@@ -1,7 +1,10 @@
+pub mod Bodies
 pub mod Bytes
-pub mod Places
-pub mod Written
 pub mod OneSlot
-pub mod Walks
-pub mod Steps
+pub mod Places
 pub mod Plans
+pub mod Sizes
+pub mod Steps
+pub mod Walks
+pub mod Written
+pub mod Examples

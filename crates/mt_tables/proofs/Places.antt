@@ -1,6 +1,6 @@
 -- The places of the slots in the pages: each begins where the one before it ends, or later, and lies
 -- among the slots of one page.
-use Rattle.std.proofs.Common.{◌≡◌, ℕ, zero, suc, ◌+◌, ◌-◌, ◌*◌, ◌<◌, ◌≤◌, List, [], ◌∷◌, ◌++◌, length, map, flat_map, get_or, refl, ap, arith, add-one}
+use Rattle.std.proofs.Common.{◌≡◌, ℕ, zero, suc, ◌+◌, ◌-◌, ◌*◌, ◌<◌, ◌≤◌, List, [], ◌∷◌, ◌++◌, length, map, flat_map, get_or, refl, ap, ◌∙◌, arith, add-one}
 use Rattle.std.proofs.Math.Nat.{mul-suc, mul-le-mul_left}
 use Rattle.mt_journal.specs.Layout.{Area}
 use Rattle.mt_tables.specs.Pages.{AreSlotSizes, SlotPlace, SlotSizes, numbers_from, page_places, place_in, places_below, slot_position, table_at}
@@ -25,7 +25,7 @@ module _ (sizes : SlotSizes) where
   AreRising [] = Unit {0}
   AreRising (place ∷ places) = AllFrom (end_of place) places × AreRising places
 
-  next_position : (width page i : ℕ) → slot_position width page (i + 1) ≡ slot_position width page i + width
+  pub next_position : (width page i : ℕ) → slot_position width page (i + 1) ≡ slot_position width page i + width
   next_position width page i = let e : width * (i + 1) ≡ width * i + width = rw add-one (mul-suc width i) in omega arith
 
   later_position : (width page i j : ℕ) → i ≤ j → slot_position width page i ≤ slot_position width page j
@@ -34,6 +34,15 @@ module _ (sizes : SlotSizes) where
   -- so many places of a page, from one on
   abbrev pub run_of : ℕ → ℕ → ℕ → ℕ → List SlotPlace
   run_of table page i n = map (place_in sizes table page) (numbers_from i n)
+
+  pub length-run_of : (table page i n : ℕ) → length (run_of table page i n) ≡ n
+  length-run_of table page i zero = refl
+  length-run_of table page i (suc n) = ap suc (length-run_of table page (i + 1) n)
+
+  pub run_of-at : (table page i n j : ℕ) (d : SlotPlace) → j < n → get_or (run_of table page i n) j d ≡ place_in sizes table page (i + j)
+  run_of-at table page i zero j d within = absurd (omega arith)
+  run_of-at table page i (suc n) zero d within = ap (place_in sizes table page) (omega arith)
+  run_of-at table page i (suc n) (suc j) d within = run_of-at table page (i + 1) n j d (omega arith) ∙ ap (place_in sizes table page) (omega arith)
 
   pub run_from : (table page m i n : ℕ) → m ≤ slot_position (sizes.width table) page i → AllFrom m (run_of table page i n)
   run_from table page m i zero low = tt
@@ -119,6 +128,11 @@ module _ (sizes : SlotSizes) where
   from_get_or m [] i d from within = absurd (omega arith)
   from_get_or m (place ∷ places) zero d from within = from.0
   from_get_or m (place ∷ places) (suc i) d from within = from_get_or m places i d from.1 (omega arith)
+
+  pub upto_get_or : (m : ℕ) (places : List SlotPlace) (i : ℕ) (d : SlotPlace) → AllUpto m places → i < length places → end_of (get_or places i d) ≤ m
+  upto_get_or m [] i d upto within = absurd (omega arith)
+  upto_get_or m (place ∷ places) zero d upto within = upto.0
+  upto_get_or m (place ∷ places) (suc i) d upto within = upto_get_or m places i d upto.1 (omega arith)
 
   -- an earlier slot ends before a later one begins
   pub rising_apart : (places : List SlotPlace) (i j : ℕ) (d : SlotPlace) → AreRising places → i < j → j < length places → end_of (get_or places i d) ≤ (get_or places j d).position

@@ -1,5 +1,5 @@
 -- One change more keeps the plan of a group.
-use Rattle.std.proofs.Common.{◌≡◌, ◌≢◌, ℕ, ◌+◌, ◌<◌, ◌≤◌, Bool, true, false, cond, nat_eq, List, [], ◌∷◌, ◌++◌, length, drop, map, get_or, set, Option, None, Some, refl, sym, ap, ◌∙◌, arith, subst}
+use Rattle.std.proofs.Common.{◌≡◌, ◌≢◌, ℕ, zero, suc, ◌+◌, ◌<◌, ◌≤◌, Bool, true, false, cond, nat_eq, ◌*◌, ◌-◌, List, [], ◌∷◌, ◌++◌, length, drop, map, get_or, set, replicate, Option, None, Some, refl, sym, ap, ◌∙◌, arith, subst}
 use Rattle.std.specs.Prelude.{nat_lt}
 use borrow.Author.Tests.{ltb-true, ltb-false}
 use Rattle.std.specs.declared.cmp.Ordering.{Ordering}
@@ -9,17 +9,19 @@ use Rattle.std.specs.FinMap.{find}
 use Rattle.std.specs.Ordering.{eq_by_cmp}
 use Rattle.std.proofs.lemmas.Bool.Decides.{nat_tests}
 use Rattle.std.proofs.lemmas.Cmp.{eq_by_cmp_equiv}
-use Rattle.std.proofs.lemmas.List.{get_or-set_same, get_or-set_other, length-map}
+use Rattle.std.proofs.lemmas.List.{get_or-append-add, get_or-replicate, get_or-set_same, get_or-set_other, get_or_append_left, length-append, length-map}
 use Rattle.mt_journal.specs.Layout.{Area, Range}
 use Rattle.mt_journal.specs.Replay.{with_ranges}
-use Rattle.mt_tables.specs.Pages.{AreSlotSizes, SlotPlace, SlotSizes, bytes_at, places_below}
-use Rattle.mt_tables.specs.Plan.{AreApart, AreFree, AreOthers, IsPlan, Says, without_first}
+use Rattle.mt_tables.specs.Commit.{IsNewPage}
+use Rattle.mt_tables.specs.Pages.{AreSlotSizes, SlotPlace, SlotSizes, bytes_at, numbers_from, place_in, places_below, slot_position}
+use Rattle.mt_tables.specs.Plan.{AreApart, AreFree, AreOthers, IsPlan, Says, page_positions, with_page, without_first}
 use Rattle.mt_tables.specs.Tables.{TableSlot, entries_of, slot_at, slots_below, tables_below}
-use Rattle.mt_tables.specs.Unique.{AreUnique}
+use Rattle.mt_tables.specs.Unique.{AreUnique, Misses, NoneSays, NoneSaysIts}
 use Rattle.mt_tables.proofs.Bytes.{put_at}
 use Rattle.mt_tables.proofs.OneSlot.{OnlyAt, none_says, only_free, only_used, tied_are_one, unique_silent}
-use Rattle.mt_tables.proofs.Places.{end_of, places_rise, rising_apart}
-use Rattle.mt_tables.proofs.Steps.{StandsAt, one_more_made, places_after, silent, slot_after, stands_at, step, step_unique, with_ranges-last, written}
+use Rattle.mt_tables.proofs.Places.{end_of, length-run_of, next_position, pages_high, places_rise, rising_apart, run_of, run_of-at, upto_get_or}
+use Rattle.mt_tables.proofs.Written.{blank_slot, control_places, control_written, page_added, places_added}
+use Rattle.mt_tables.proofs.Steps.{StandsAt, control_made, one_more_made, page_made, places_after, silent, slot_after, stands_at, step, step_unique, with_ranges-last, written}
 
 module _ {K V : Type 0} (sizes : SlotSizes) (sound : AreSlotSizes sizes) (read : TableSlot → Option (K × V)) (count : ℕ) where
   -- a slot that says something, or nothing, is one of those below the number
@@ -319,3 +321,168 @@ module _ {K V : Type 0} {R : K → K → Ordering} (o : IsTotalOrder R) (exact :
         are_free = λ t. subst (λ x. AreFree sizes read count x t (free2 t)) (sym new) (still_free sizes sound read count area s.number place bytes t (free2 t) at short (others t) (all t));
         are_apart = apart;
       }
+
+module _ {K V : Type 0} (sizes : SlotSizes) (sound : AreSlotSizes sizes) (read : TableSlot → Option (K × V)) (count : ℕ) (old new : Area) where
+  -- what a slot says, where a page more has its places and slots behind all others
+  front_says : (more : List SlotPlace) (slots : List TableSlot) → places_below sizes (count + 1) new ≡ places_below sizes count old ++ more → slots_below sizes (count + 1) new ≡ slots_below sizes count old ++ slots
+      → (place : SlotPlace) (entry : Option (K × V)) → Says sizes read count old place entry → Says sizes read (count + 1) new place entry
+  front_says more slots same_places same_slots place entry s =
+      let at = at_of sizes sound read count old place entry s in
+      let among = among_slots sizes sound read count old s.number place at in
+      record {
+        number = s.number;
+        within = subst (λ ps. s.number < length ps) (sym same_places) (let l = length-append (places_below sizes count old) more in let w = s.within in omega arith);
+        stands = λ d. ap (λ ps. get_or ps s.number d) same_places ∙ get_or_append_left (places_below sizes count old) more d s.number s.within ∙ s.stands d;
+        says = λ d. ap (λ ss. read (get_or ss s.number d)) same_slots ∙ ap read (get_or_append_left (slots_below sizes count old) slots d s.number among) ∙ s.says d;
+      }
+
+  front_free : (more : List SlotPlace) (slots : List TableSlot) → places_below sizes (count + 1) new ≡ places_below sizes count old ++ more → slots_below sizes (count + 1) new ≡ slots_below sizes count old ++ slots
+      → (table : ℕ) (positions : List ℕ) → AreFree sizes read count old table positions → AreFree sizes read (count + 1) new table positions
+  front_free more slots same_places same_slots table [] free = tt
+  front_free more slots same_places same_slots table (p ∷ positions) free =
+      (front_says more slots same_places same_slots (record { table = table; position = p }) None free.0, front_free more slots same_places same_slots table positions free.1)
+
+  module _ (table : ℕ) (is : IsNewPage count table old new) (free : read (blank_slot sizes table) ≡ None) where
+    -- the j-th slot of the new page says nothing
+    blank_says : (j : ℕ) → j < sizes.count table → Says sizes read (count + 1) new (record { table = table; position = slot_position (sizes.width table) count j }) None
+    blank_says j within =
+        let places = places_added sizes count old new table is in
+        let slots = page_added sizes sound count old new table is in
+        let long = slots_long sizes sound read count old in
+        record {
+          number = length (places_below sizes count old) + j;
+          within = subst (λ ps. length (places_below sizes count old) + j < length ps) (sym places)
+              (let l = length-append (places_below sizes count old) (run_of sizes table count 0 (sizes.count table)) in let r = length-run_of sizes table count 0 (sizes.count table) in omega arith);
+          stands = λ d. ap (λ ps. get_or ps (length (places_below sizes count old) + j) d) places
+              ∙ get_or-append-add (places_below sizes count old) (run_of sizes table count 0 (sizes.count table)) j d ∙ run_of-at sizes table count 0 (sizes.count table) j d within ∙ ap (place_in sizes table count) (omega arith);
+          says = λ d. ap (λ ss. read (get_or ss (length (places_below sizes count old) + j) d)) slots
+              ∙ ap (λ n. read (get_or (slots_below sizes count old ++ replicate (sizes.count table) (blank_slot sizes table)) (n + j) d)) (sym long)
+              ∙ ap read (get_or-append-add (slots_below sizes count old) (replicate (sizes.count table) (blank_slot sizes table)) j d ∙ get_or-replicate (sizes.count table) j (blank_slot sizes table) d within) ∙ free;
+        }
+
+    blanks_free : (i n : ℕ) → i + n ≤ sizes.count table → AreFree sizes read (count + 1) new table (map (slot_position (sizes.width table) count) (numbers_from i n))
+    blanks_free i zero within = tt
+    blanks_free i (suc n) within = (blank_says i (omega arith), blanks_free (i + 1) n (omega arith))
+
+-- positions that rise are apart
+module _ (sizes : SlotSizes) (sound : AreSlotSizes sizes) where
+  -- no position of a page's slots from the i-th on is one that lies before it
+  before_run : (table page at i n : ℕ) → at < slot_position (sizes.width table) page i → AreOthers at (map (slot_position (sizes.width table) page) (numbers_from i n))
+  before_run table page at i zero before = tt
+  before_run table page at i (suc n) before =
+      let next = next_position sizes (sizes.width table) page i in
+      ((λ same. absurd (omega arith)), before_run table page at (i + 1) n (omega arith))
+
+  run_apart : (table page i n : ℕ) → AreApart (map (slot_position (sizes.width table) page) (numbers_from i n))
+  run_apart table page i zero = tt
+  run_apart table page i (suc n) =
+      let wide = sound.some table in
+      let next = next_position sizes (sizes.width table) page i in
+      (before_run table page (slot_position (sizes.width table) page i) (i + 1) n (omega arith), run_apart table page (i + 1) n)
+
+  others_append : (at : ℕ) (xs ys : List ℕ) → AreOthers at xs → AreOthers at ys → AreOthers at (xs ++ ys)
+  others_append at [] ys one two = two
+  others_append at (x ∷ xs) ys one two = (one.0, others_append at xs ys one.1 two)
+
+  module _ {K V : Type 0} (read : TableSlot → Option (K × V)) (count : ℕ) (old : Area) where
+    -- a slot of the pages below a number lies before the page with that number
+    lies_before : (some : 1 ≤ count) (place : SlotPlace) (entry : Option (K × V)) → Says sizes read count old place entry → place.position < 4096 * count
+    lies_before some place entry s =
+        let wide = sound.some place.table in
+        let h : end_of sizes place ≤ 4096 * count = subst (λ x. end_of sizes x ≤ 4096 * count) (s.stands place)
+        (upto_get_or sizes (4096 * count) (places_below sizes count old) s.number place (pages_high sizes sound old count 1 (count - 1) (omega arith)) s.within) in
+        omega arith
+
+    free_and_new : (some : 1 ≤ count) (table t : ℕ) (positions : List ℕ) → AreFree sizes read count old t positions → AreApart positions → AreApart (positions ++ page_positions sizes table count)
+    free_and_new some table t [] free apart = run_apart table count 0 (sizes.count table)
+    free_and_new some table t (p ∷ positions) free apart =
+        let before = lies_before some (record { table = t; position = p }) None free.0 in
+        (others_append p positions (page_positions sizes table count) apart.0 (before_run table count p 0 (sizes.count table) (omega arith)), free_and_new some table t positions free.1 apart.1)
+
+module _ {K V : Type 0} (R : K → K → Ordering) (sizes : SlotSizes) (sound : AreSlotSizes sizes) (read : TableSlot → Option (K × V)) (table_of : K → ℕ) (count : ℕ) where
+  blanks_unique : (slots : List TableSlot) (n : ℕ) (blank : TableSlot) → read blank ≡ None → AreUnique R read slots → AreUnique R read (slots ++ replicate n blank)
+  blanks_unique [] zero blank free unique = tt
+  blanks_unique [] (suc n) blank free unique = (subst (λ e. NoneSaysIts R read e (replicate n blank)) (sym free) tt, blanks_unique [] n blank free tt)
+  blanks_unique (slot ∷ slots) n blank free unique = (by (read slot) unique.0, blanks_unique slots n blank free unique.1)
+    where
+      none_blank : (k : K) (m : ℕ) → NoneSays R read k (replicate m blank)
+      none_blank k zero = tt
+      none_blank k (suc m) = (subst (λ e. Misses R k e) (sym free) tt, none_blank k m)
+
+      none_more : (k : K) (rest : List TableSlot) → NoneSays R read k rest → NoneSays R read k (rest ++ replicate n blank)
+      none_more k [] none = none_blank k n
+      none_more k (r ∷ rest) none = (none.0, none_more k rest none.1)
+
+      by : (e : Option (K × V)) → NoneSaysIts R read e slots → NoneSaysIts R read e (slots ++ replicate n blank)
+      by None none = tt
+      by (Some e) none = none_more e.0 slots none
+
+  -- A NEW PAGE: its positions are free behind those that were
+  pub plan_with_page : (pages : Area) (changes : List (K × Option V)) (ranges more : List Range) (index : finite.FinMap R ℕ) (free : ℕ → List ℕ) (table : ℕ)
+      → IsPlan sizes read R table_of count pages changes ranges index free → IsNewPage count table (with_ranges ranges pages) (with_ranges (ranges ++ more) pages) → read (blank_slot sizes table) ≡ None
+      → IsPlan sizes read R table_of (count + 1) pages changes (ranges ++ more) index (with_page sizes table count free)
+  plan_with_page pages changes ranges more index free table plan is blank =
+      let old = with_ranges ranges pages in
+      let new = with_ranges (ranges ++ more) pages in
+      let places = places_added sizes count old new table is in
+      let slots = page_added sizes sound count old new table is in
+      let run = run_of sizes table count 0 (sizes.count table) in
+      let blanks = replicate (sizes.count table) (blank_slot sizes table) in
+      let same : tables_below {R = R} sizes (count + 1) read new ≡ tables_below sizes count read old = page_made sizes sound count read old new table is blank in
+      record {
+        made = same ∙ plan.made;
+        unique = subst (AreUnique R read) (sym slots) (blanks_unique (slots_below sizes count old) (sizes.count table) (blank_slot sizes table) blank plan.unique);
+        held = λ k p there. let s = plan.held k p there in (s.0, front_says sizes sound read count old new run blanks places slots (record { table = table_of k; position = p }) (Some (k, s.0)) s.1);
+        lacked = λ k none. ap (λ m. finite.get m k) same ∙ plan.lacked k none;
+        are_free = λ t. free_by old new is blank run blanks places slots t (plan.are_free t) (nat_eq t table) refl;
+        are_apart = λ t. apart_by old is.some t (plan.are_free t) (plan.are_apart t) (nat_eq t table);
+      }
+    where
+      free_by : (old new : Area) (is : IsNewPage count table old new) (blank : read (blank_slot sizes table) ≡ None) (run : List SlotPlace) (blanks : List TableSlot) → places_below sizes (count + 1) new ≡ places_below sizes count old ++ run
+          → slots_below sizes (count + 1) new ≡ slots_below sizes count old ++ blanks → (t : ℕ) → AreFree sizes read count old t (free t) → (b : Bool) → nat_eq t table ≡ b
+          → AreFree sizes read (count + 1) new t (cond b (free t ++ page_positions sizes table count) (free t))
+      free_by old new is blank run blanks places slots t all true e =
+          let same : t ≡ table = grind (arith, nat_tests, e) in
+          free_append2 new t (free t) (page_positions sizes table count) (front_free sizes sound read count old new run blanks places slots t (free t) all)
+          (subst (λ u. AreFree sizes read (count + 1) new u (page_positions sizes table count)) (sym same) (blanks_free sizes sound read count old new table is blank 0 (sizes.count table) (omega arith)))
+        where
+          free_append2 : (area : Area) (u : ℕ) (xs ys : List ℕ) → AreFree sizes read (count + 1) area u xs → AreFree sizes read (count + 1) area u ys → AreFree sizes read (count + 1) area u (xs ++ ys)
+          free_append2 area u [] ys one two = two
+          free_append2 area u (x ∷ xs) ys one two = (one.0, free_append2 area u xs ys one.1 two)
+      free_by old new is blank run blanks places slots t all false e = front_free sizes sound read count old new run blanks places slots t (free t) all
+
+      apart_by : (old : Area) → 1 ≤ count → (t : ℕ) → AreFree sizes read count old t (free t) → AreApart (free t) → (b : Bool) → AreApart (cond b (free t ++ page_positions sizes table count) (free t))
+      apart_by old some t all apart true = free_and_new sizes sound read count old some table t (free t) all apart
+      apart_by old some t all apart false = apart
+
+  -- CONTROL: a range in page 0 changes nothing of the plan
+  pub plan_with_control : (pages : Area) (changes : List (K × Option V)) (ranges : List Range) (index : finite.FinMap R ℕ) (free : ℕ → List ℕ) (at : ℕ) (bytes : List ℕ)
+      → IsPlan sizes read R table_of count pages changes ranges index free → at + length bytes ≤ 4096
+      → IsPlan sizes read R table_of count pages changes (ranges ++ record { position = at; bytes = bytes } ∷ []) index free
+  plan_with_control pages changes ranges index free at bytes plan low =
+      let old = with_ranges ranges pages in
+      let new : with_ranges (ranges ++ record { position = at; bytes = bytes } ∷ []) pages ≡ put_at at bytes old = with_ranges-last ranges (record { position = at; bytes = bytes }) pages in
+      let places = control_places sizes count old at bytes low in
+      let slots = control_written sizes count old at bytes low in
+      let same : tables_below {R = R} sizes count read (put_at at bytes old) ≡ tables_below sizes count read old = control_made sizes sound count read old at bytes low in
+      record {
+        made = ap (tables_below sizes count read) new ∙ same ∙ plan.made;
+        unique = subst (λ x. AreUnique R read (slots_below sizes count x)) (sym new) (subst (AreUnique R read) (sym slots) plan.unique);
+        held = λ k p there. let s = plan.held k p there in
+            (s.0, subst (λ x. Says sizes read count x (record { table = table_of k; position = p }) (Some (k, s.0))) (sym new) (says_still old (put_at at bytes old) places slots (record { table = table_of k; position = p }) (Some (k, s.0)) s.1));
+        lacked = λ k none. ap (λ x. finite.get (tables_below {R = R} sizes count read x) k) new ∙ ap (λ m. finite.get m k) same ∙ plan.lacked k none;
+        are_free = λ t. subst (λ x. AreFree sizes read count x t (free t)) (sym new) (free_still old (put_at at bytes old) places slots t (free t) (plan.are_free t));
+        are_apart = plan.are_apart;
+      }
+    where
+      says_still : (old new : Area) → places_below sizes count new ≡ places_below sizes count old → slots_below sizes count new ≡ slots_below sizes count old → (place : SlotPlace) (entry : Option (K × V)) → Says sizes read count old place entry → Says sizes read count new place entry
+      says_still old new places slots place entry s = record {
+        number = s.number;
+        within = subst (λ ps. s.number < length ps) (sym places) s.within;
+        stands = λ d. ap (λ ps. get_or ps s.number d) places ∙ s.stands d;
+        says = λ d. ap (λ ss. read (get_or ss s.number d)) slots ∙ s.says d;
+      }
+
+      free_still : (old new : Area) → places_below sizes count new ≡ places_below sizes count old → slots_below sizes count new ≡ slots_below sizes count old → (t : ℕ) (positions : List ℕ) → AreFree sizes read count old t positions → AreFree sizes read count new t positions
+      free_still old new places slots t [] all = tt
+      free_still old new places slots t (p ∷ positions) all = (says_still old new places slots (record { table = t; position = p }) None all.0, free_still old new places slots t positions all.1)

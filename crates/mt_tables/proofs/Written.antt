@@ -89,19 +89,23 @@ module _ (sizes : SlotSizes) where
       let f = from.0 in let u = upto.0 in
       rw (zero_bytes area (slot_position (sizes.width table) page i) (sizes.width table) (λ k above below. free k (omega arith) (omega arith)), blank_slots area low high table page (i + 1) n from.1 upto.1 free) refl
 
-  -- A NEW PAGE adds its slots, all of them blank
-  pub page_added : AreSlotSizes sizes → (count : ℕ) (old new : Area) (table : ℕ) → IsNewPage count table old new → slots_below sizes (count + 1) new ≡ slots_below sizes count old ++ replicate (sizes.count table) (blank_slot table)
-  page_added sound count old new table is =
+  -- A NEW PAGE adds its places behind all others
+  pub places_added : (count : ℕ) (old new : Area) (table : ℕ) → IsNewPage count table old new → places_below sizes (count + 1) new ≡ places_below sizes count old ++ run_of sizes table count 0 (sizes.count table)
+  places_added count old new table is =
       let one : 1 ≤ count = is.some in
       let e : count + 1 - 1 ≡ (count - 1) + 1 = omega arith in
       let f : 1 + (count - 1) ≡ count = omega arith in
       let heads : (m : ℕ) → 1 ≤ m → m < 1 + (count - 1) → table_at new m ≡ table_at old m
       = λ m low high. same_number old new (4096 * m) 4 (λ k above below. is.rest k (omega arith) (omega arith)) in
-      let places : places_below sizes (count + 1) new ≡ places_below sizes count old ++ run_of sizes table count 0 (sizes.count table) =
       ap (pages_places sizes new 1) e ∙ ap (flat_map (page_places sizes new)) (numbers_from-last 1 (count - 1))
       ∙ flat_map-append (page_places sizes new) (numbers_from 1 (count - 1)) ((1 + (count - 1)) ∷ [])
       ∙ ap (λ front. front ++ flat_map (page_places sizes new) ((1 + (count - 1)) ∷ [])) (same_places old new 1 (count - 1) heads)
-      ∙ ap (λ last. places_below sizes count old ++ last) (append-nil (page_places sizes new (1 + (count - 1))) ∙ ap (page_places sizes new) f ∙ ap (λ t. run_of sizes t count 0 (sizes.count t)) is.head) in
+      ∙ ap (λ last. places_below sizes count old ++ last) (append-nil (page_places sizes new (1 + (count - 1))) ∙ ap (page_places sizes new) f ∙ ap (λ t. run_of sizes t count 0 (sizes.count t)) is.head)
+
+  -- and their slots, all of them blank
+  pub page_added : AreSlotSizes sizes → (count : ℕ) (old new : Area) (table : ℕ) → IsNewPage count table old new → slots_below sizes (count + 1) new ≡ slots_below sizes count old ++ replicate (sizes.count table) (blank_slot table)
+  page_added sound count old new table is =
+      let one : 1 ≤ count = is.some in
       let stand : map (slot_at sizes new) (places_below sizes count old) ≡ slots_below sizes count old =
       same_slots old new 4096 (4096 * count) (places_below sizes count old)
       (from_less sizes (4096 * 1 + 8) 4096 (places_below sizes count old) (omega arith) (pages_low sizes old 1 1 (count - 1) (omega arith)))
@@ -109,13 +113,16 @@ module _ (sizes : SlotSizes) where
       let fresh : map (slot_at sizes new) (run_of sizes table count 0 (sizes.count table)) ≡ replicate (sizes.count table) (blank_slot table) =
       blank_slots new (4096 * count + 8) (4096 * count + 4096) table count 0 (sizes.count table)
       (run_from sizes table count (4096 * count + 8) 0 (sizes.count table) (omega arith)) (run_ends sizes sound table count) is.free in
-      ap (map (slot_at sizes new)) places ∙ map-append (slot_at sizes new) (places_below sizes count old) (run_of sizes table count 0 (sizes.count table))
+      ap (map (slot_at sizes new)) (places_added count old new table is) ∙ map-append (slot_at sizes new) (places_below sizes count old) (run_of sizes table count 0 (sizes.count table))
       ∙ ap (λ front. front ++ map (slot_at sizes new) (run_of sizes table count 0 (sizes.count table))) stand ∙ ap (λ last. slots_below sizes count old ++ last) fresh
 
-  -- a range in page 0 leaves all slots
+  -- a range in page 0 leaves all places
+  pub control_places : (count : ℕ) (area : Area) (at : ℕ) (bytes : List ℕ) → at + length bytes ≤ 4096 → places_below sizes count (put_at at bytes area) ≡ places_below sizes count area
+  control_places count area at bytes low =
+      same_places area (put_at at bytes area) 1 (count - 1) (λ m first last. same_number area (put_at at bytes area) (4096 * m) 4 (beside_range at bytes area (4096 * m) 4 (inr (omega arith))))
+
+  -- and all slots
   pub control_written : (count : ℕ) (area : Area) (at : ℕ) (bytes : List ℕ) → at + length bytes ≤ 4096 → slots_below sizes count (put_at at bytes area) ≡ slots_below sizes count area
   control_written count area at bytes low =
-      let places : places_below sizes count (put_at at bytes area) ≡ places_below sizes count area
-      = same_places area (put_at at bytes area) 1 (count - 1) (λ m first last. same_number area (put_at at bytes area) (4096 * m) 4 (beside_range at bytes area (4096 * m) 4 (inr (omega arith)))) in
-      ap (map (slot_at sizes (put_at at bytes area))) places
+      ap (map (slot_at sizes (put_at at bytes area))) (control_places count area at bytes low)
       ∙ slots_behind area at bytes (places_below sizes count area) (from_less sizes (4096 * 1 + 8) (at + length bytes) (places_below sizes count area) (omega arith) (pages_low sizes area 1 1 (count - 1) (omega arith)))

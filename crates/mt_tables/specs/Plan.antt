@@ -1,11 +1,11 @@
 -- What is known of the pages as they will be, while a group is chosen range by range.
-use Rattle.std.specs.Prelude.{◌≡◌, ◌≢◌, ℕ, ◌<◌, nat_eq, if◌then◌else◌, List, [], ◌∷◌, length, drop, get_or, Option, None, Some}
+use Rattle.std.specs.Prelude.{◌≡◌, ◌≢◌, ℕ, ◌<◌, nat_eq, if◌then◌else◌, List, [], ◌∷◌, ◌++◌, length, map, drop, get_or, Option, None, Some}
 use Rattle.std.specs.declared.cmp.Ordering.{Ordering}
 use Rattle.std.specs.FinMap as finite
 use Rattle.mt_journal.specs.Layout.{Area, Range}
 use Rattle.mt_journal.specs.Replay.{with_ranges}
 use Rattle.mt_tables.specs.Commit.{Makes}
-use Rattle.mt_tables.specs.Pages.{SlotPlace, SlotSizes, places_below}
+use Rattle.mt_tables.specs.Pages.{SlotPlace, SlotSizes, numbers_from, places_below, slot_position}
 use Rattle.mt_tables.specs.Tables.{TableSlot, slots_below, tables_below}
 use Rattle.mt_tables.specs.Unique.{AreUnique}
 
@@ -34,6 +34,14 @@ AreApart (position ∷ positions) = AreOthers position positions × AreApart pos
 -- the free positions by table, without the first one of a table
 abbrev pub without_first : ℕ → (ℕ → List ℕ) → ℕ → List ℕ
 without_first table free t = if nat_eq t table then drop 1 (free t) else free t
+
+-- where the slots of a page of a table begin
+abbrev pub page_positions : SlotSizes → ℕ → ℕ → List ℕ
+page_positions sizes table page = map (slot_position (sizes.width table) page) (numbers_from 0 (sizes.count table))
+
+-- the free positions by table, with those of a new page behind
+abbrev pub with_page : SlotSizes → ℕ → ℕ → (ℕ → List ℕ) → ℕ → List ℕ
+with_page sizes table page free t = if nat_eq t table then free t ++ page_positions sizes table page else free t
 
 -- THE PLAN of these changes: ranges that make them, where each key stands once they are written, and
 -- positions of each table that are free then. A key that stands nowhere is none of a slot's.
