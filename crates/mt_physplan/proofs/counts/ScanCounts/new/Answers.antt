@@ -1,0 +1,6 @@
+-- An array of zeros counts nothing.
+use Rattle.mt_physplan.specs.Counts.{none_counted}
+use Rattle.mt_physplan.proofs.counts.ScanCounts.new.Goals as goal
+
+pub returns : goal.returns
+returns c = none_counted 32

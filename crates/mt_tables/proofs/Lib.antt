@@ -1,0 +1,10 @@
+pub mod Bodies
+pub mod Bytes
+pub mod OneSlot
+pub mod Places
+pub mod Plans
+pub mod Sizes
+pub mod Steps
+pub mod Walks
+pub mod Written
+pub mod Examples

@@ -1,0 +1,55 @@
+-- What is known of the pages as they will be, while a group is chosen range by range.
+use Rattle.std.specs.Prelude.{◌≡◌, ◌≢◌, ℕ, ◌<◌, nat_eq, if◌then◌else◌, List, [], ◌∷◌, ◌++◌, length, map, drop, get_or, Option, None, Some}
+use Rattle.std.specs.declared.cmp.Ordering.{Ordering}
+use Rattle.std.specs.FinMap as finite
+use Rattle.mt_journal.specs.Layout.{Area, Range}
+use Rattle.mt_journal.specs.Replay.{with_ranges}
+use Rattle.mt_tables.specs.Commit.{Makes}
+use Rattle.mt_tables.specs.Pages.{SlotPlace, SlotSizes, numbers_from, places_below, slot_position}
+use Rattle.mt_tables.specs.Tables.{TableSlot, slots_below, tables_below}
+use Rattle.mt_tables.specs.Unique.{AreUnique}
+
+-- a place is that of a slot of the pages below a number, and what the slot there says
+pub record Says {K V : Type 0} (sizes : SlotSizes) (read : TableSlot → Option (K × V)) (count : ℕ) (area : Area) (place : SlotPlace) (entry : Option (K × V)) : Type 0 where
+  pub number : ℕ
+  pub within : number < length (places_below sizes count area)
+  pub stands : (d : SlotPlace) → get_or (places_below sizes count area) number d ≡ place
+  pub says : (d : TableSlot) → read (get_or (slots_below sizes count area) number d) ≡ entry
+
+-- each slot of a table at these positions is free
+abbrev pub AreFree : {K V : Type 0} → SlotSizes → (TableSlot → Option (K × V)) → ℕ → Area → ℕ → List ℕ → Type 0
+AreFree sizes read count area table [] = Unit {0}
+AreFree sizes read count area table (position ∷ positions) = Says sizes read count area (record { table = table; position = position }) None × AreFree sizes read count area table positions
+
+-- none of these positions is that one
+abbrev pub AreOthers : ℕ → List ℕ → Type 0
+AreOthers position [] = Unit {0}
+AreOthers position (other ∷ positions) = (other ≢ position) × AreOthers position positions
+
+-- no two of the positions are one
+abbrev pub AreApart : List ℕ → Type 0
+AreApart [] = Unit {0}
+AreApart (position ∷ positions) = AreOthers position positions × AreApart positions
+
+-- the free positions by table, without the first one of a table
+abbrev pub without_first : ℕ → (ℕ → List ℕ) → ℕ → List ℕ
+without_first table free t = if nat_eq t table then drop 1 (free t) else free t
+
+-- where the slots of a page of a table begin
+abbrev pub page_positions : SlotSizes → ℕ → ℕ → List ℕ
+page_positions sizes table page = map (slot_position (sizes.width table) page) (numbers_from 0 (sizes.count table))
+
+-- the free positions by table, with those of a new page behind
+abbrev pub with_page : SlotSizes → ℕ → ℕ → (ℕ → List ℕ) → ℕ → List ℕ
+with_page sizes table page free t = if nat_eq t table then free t ++ page_positions sizes table page else free t
+
+-- THE PLAN of these changes: ranges that make them, where each key stands once they are written, and
+-- positions of each table that are free then. A key that stands nowhere is none of a slot's.
+pub record IsPlan {K V : Type 0} (sizes : SlotSizes) (read : TableSlot → Option (K × V)) (R : K → K → Ordering) (table_of : K → ℕ) (count : ℕ) (pages : Area) (changes : List (K × Option V)) (ranges : List Range) (index : finite.FinMap R ℕ) (free : ℕ → List ℕ) : Type 0 where
+  pub made : Makes sizes read R changes ranges count pages
+  pub unique : AreUnique R read (slots_below sizes count (with_ranges ranges pages))
+  pub held : (key : K) (position : ℕ) → finite.get index key ≡ Some position
+      → (value : V) × Says sizes read count (with_ranges ranges pages) (record { table = table_of key; position = position }) (Some (key, value))
+  pub lacked : (key : K) → finite.get index key ≡ None → finite.get (tables_below {R = R} sizes count read (with_ranges ranges pages)) key ≡ None
+  pub are_free : (table : ℕ) → AreFree sizes read count (with_ranges ranges pages) table (free table)
+  pub are_apart : (table : ℕ) → AreApart (free table)
