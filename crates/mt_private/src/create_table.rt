@@ -51,7 +51,11 @@ fn is_size_within(kind: DefKind) -> bool
 }
 
 /// The table of that name and these columns.
-pub(crate) fn new_table(alloc: Global, name: Str, defs: List<SimpleDef>) -> Result<Table, AllocError>
+pub(crate) fn new_table(
+    alloc: Global,
+    name: Str,
+    defs: List<SimpleDef>,
+) -> Result<Table, AllocError>
     requires { All (λ def. IsTrue (is_size_within def.kind)) defs }
     ensures { IfOk result (λ table. table ≡ table_of_defs name defs) }
 {

@@ -4,5 +4,6 @@
 //! page, changes, and that a walk over the slots finds what the map holds.
 #![tactic(auto)]
 
-/// Nothing; the crate is its definitions.
-pub fn nothing() {}
+mod laws;
+
+pub use laws::{slots_lie_within_pages, walks_find_rows};
