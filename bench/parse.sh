@@ -10,16 +10,27 @@ work=$(mktemp -d)
 trap 'rm -rf "$work"' EXIT
 cd "$work"
 
+# Times the program on a file of lines, and sees that it gave so many replies of each text that is expected.
 report() {
     name=$1
     count=$2
+    expected=$3
     /usr/bin/time -f "%e %U %S" -o taken "$program" plain <"$name" >replies
     awk -v name="$name" -v n="$count" -v bytes="$(wc -c <"$name")" '{
         printf "%-12s %6d lines of %6d bytes %6.2f s %8.4f ms a line, of it %.4f its own and %.4f the system'\''s\n",
             name, n, bytes / n, $1, 1000 * $1 / n, 1000 * $2 / n, 1000 * $3 / n
     }' taken
-    sort replies | uniq -c
+    sort replies | uniq -c | sed 's/^ *//' >given
+    printf '%s\n' "$expected" >wanted
+    cmp -s given wanted || {
+        echo "$name: replies are not as expected"
+        diff wanted given
+        exit 1
+    }
 }
+
+refused="error E09 not served here"
+syntax="error E10 syntax"
 
 awk 'BEGIN {
     print "@admin CREATE TENANT 1 QUOTA 1";
@@ -34,8 +45,11 @@ awk 'BEGIN {
         print "@admin REFOLD 1 account TO CONV (id, x), C1 (name), C4 (y, z)";
     }
 }' >mixed
-report mixed 20001
+report mixed 20001 "17500 $refused
+2500 $syntax
+1 ok"
 
+# One tenant, and so many lines of one text: a front, a unit so many times, a back; each is answered the last word.
 long() {
     awk -v front="$2" -v unit="$3" -v times="$4" -v back="$5" -v lines="$6" 'BEGIN {
         print "@admin CREATE TENANT 1 QUOTA 1";
@@ -44,13 +58,14 @@ long() {
         line = line back;
         for (i = 0; i < lines; i++) print line;
     }' >"$1"
-    report "$1" "$6"
+    report "$1" "$6" "$6 $7
+1 ok"
 }
-long sum "@1 SELECT 1" "+1" 32757 " FROM t" 200
-long half-sum "@1 SELECT 1" "+1" 16378 " FROM t" 200
-long and "@1 PURGE t WHERE a=1" " AND a=1" 8189 "" 200
-long half-and "@1 PURGE t WHERE a=1" " AND a=1" 4094 "" 200
-long tuples "@1 INSERT INTO t VALUES (1,\047some text of one row\047,NULL)" ",(1,\047some text of one row\047,NULL)" 999 "" 200
-long 1001-tuples "@1 INSERT INTO t VALUES (1,\047some text of one row\047,NULL)" ",(1,\047some text of one row\047,NULL)" 1000 "" 200
+long sum "@1 SELECT 1" "+1" 32757 " FROM t" 200 "$refused"
+long half-sum "@1 SELECT 1" "+1" 16378 " FROM t" 200 "$refused"
+long and "@1 PURGE t WHERE a=1" " AND a=1" 8189 "" 200 "$refused"
+long half-and "@1 PURGE t WHERE a=1" " AND a=1" 4094 "" 200 "$refused"
+long tuples "@1 INSERT INTO t VALUES (1,\047some text of one row\047,NULL)" ",(1,\047some text of one row\047,NULL)" 999 "" 200 "$refused"
+long 1001-tuples "@1 INSERT INTO t VALUES (1,\047some text of one row\047,NULL)" ",(1,\047some text of one row\047,NULL)" 1000 "" 200 "$syntax"
 brackets=$(printf '%064d' 0 | tr 0 ')')
-long brackets "@1 PURGE t WHERE " "(" 64 "a=1$brackets" 20000
+long brackets "@1 PURGE t WHERE " "(" 64 "a=1$brackets" 20000 "$refused"
