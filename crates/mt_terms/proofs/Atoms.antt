@@ -1,8 +1,8 @@
 -- Columns, aggregates and atoms: what is read is spelled so, and what is spelled so is read.
 use Rattle.std.proofs.Common.{◌≡◌, ℕ, ◌<◌, Bool, true, false, cond, Option, Some, None, is_some, List, [], ◌∷◌, ◌++◌, length, refl, sym, ap, ◌∙◌, subst, inl, inr, arith}
-use Rattle.std.specs.Prelude.{codes}
+use Rattle.std.specs.Prelude.{codes, ◌||◌}
 use Rattle.mt_lexer.specs.declared.token.Symbol.TheVariants as symbol
-use Rattle.mt_lexer.specs.Tokens.{Lexeme, Word, Sign}
+use Rattle.mt_lexer.specs.Tokens.{Lexeme, Word, Number, Quoted, Sign}
 use Rattle.mt_tree.specs.declared.name.ColName.{ColName}
 use Rattle.mt_tree.specs.declared.expression.Literal.{Literal}
 use Rattle.mt_tree.specs.declared.expression.Literal.TheVariants as literal
@@ -22,7 +22,7 @@ use Rattle.mt_reader.proofs.Shrinking.{bind_some, same_tree, same_rest}
 use Rattle.mt_reader.proofs.Parts.{literal_sound}
 use Rattle.mt_reader.proofs.Spelling.{IsSound, IsComplete, IsCompleteBefore, after_is, name_is, Shrinks, sound_shrinks}
 use Rattle.mt_terms.specs.Expression.{SpellsNamed, SpellsColumn, Called, SpellsAgg, SpellsAtom}
-use Rattle.mt_terms.specs.Descent.{dotted_of, column_of, called_of, all_counted_of, column_counted_of, counted_of, max_of, agg_of, agg_atom_of, reserved_atom_of, column_atom_of, literal_atom_of, atom_of}
+use Rattle.mt_terms.specs.Descent.{dotted_of, column_of, called_of, all_counted_of, column_counted_of, counted_of, max_of, agg_of, agg_atom_of, begins_reserved_atom, reserved_atom_of, column_atom_of, literal_atom_of, atom_of}
 
 -- no dot comes first
 abbrev pub NoDot : List Lexeme → Type 0
@@ -233,6 +233,64 @@ atom_sound lexemes rest found e = by_first (begins_with_name lexemes) (begins_wi
   by_first true word e = column_atom_sound lexemes rest found e
   by_first false true e = reserved_atom_sound lexemes rest found e
   by_first false false e = literal_atom_sound lexemes rest found e
+
+-- which words begin what
+
+-- what begins with no word is a literal
+pub literal_first : (lexemes : List Lexeme) → begins_with_word lexemes ≡ false → atom_of lexemes ≡ literal_atom_of lexemes
+unfolding atom_of
+literal_first [] h = refl
+literal_first (Word name ∷ rest) h = cc
+literal_first (Number value ∷ rest) h = refl
+literal_first (Quoted text ∷ rest) h = refl
+literal_first (Sign sign ∷ rest) h = refl
+
+-- what begins with a reserved word is NULL or an aggregate
+by_reserved : (word : List ℕ) → is_reserved_name word ≡ true → (lexemes : List Lexeme) → is_some (after (Word word) lexemes) ≡ true → atom_of lexemes ≡ reserved_atom_of lexemes
+unfolding atom_of
+by_reserved word reserved lexemes h = by_found (after (Word word) lexemes) refl h where
+  behind : (rest : List Lexeme) → atom_of (Word word ∷ rest) ≡ reserved_atom_of (Word word ∷ rest)
+  behind rest = rw reserved refl
+
+  by_found : (found : Option (List Lexeme)) → after (Word word) lexemes ≡ found → is_some found ≡ true → atom_of lexemes ≡ reserved_atom_of lexemes
+  by_found None a h = cc
+  by_found (Some rest) a h = subst (λ ls. atom_of ls ≡ reserved_atom_of ls) (sym (after_is (Word word) lexemes rest a)) (behind rest)
+
+-- what begins with one of the words that begin an atom
+pub reserved_first : (lexemes : List Lexeme) → begins_reserved_atom lexemes ≡ true → atom_of lexemes ≡ reserved_atom_of lexemes
+unfolding reserved
+reserved_first lexemes h = by_word _ _ _ _ _ refl refl refl refl refl h where
+  by_word : (null count sum min max : Bool) → is_some (after (Word (codes "null")) lexemes) ≡ null → is_some (after (Word (codes "count")) lexemes) ≡ count → is_some (after (Word (codes "sum")) lexemes) ≡ sum → is_some (after (Word (codes "min")) lexemes) ≡ min → is_some (after (Word (codes "max")) lexemes) ≡ max → (null || count || sum || min || max) ≡ true → atom_of lexemes ≡ reserved_atom_of lexemes
+  by_word true count sum min max a b c d e h = by_reserved (codes "null") refl lexemes a
+  by_word false true sum min max a b c d e h = by_reserved (codes "count") refl lexemes b
+  by_word false false true min max a b c d e h = by_reserved (codes "sum") refl lexemes c
+  by_word false false false true max a b c d e h = by_reserved (codes "min") refl lexemes d
+  by_word false false false false true a b c d e h = by_reserved (codes "max") refl lexemes e
+  by_word false false false false false a b c d e h = cc
+
+-- where none of these words comes first there is no aggregate, and no NULL
+no_reserved_atom : (lexemes : List Lexeme) → begins_reserved_atom lexemes ≡ false → reserved_atom_of lexemes ≡ None
+unfolding reserved_atom_of agg_of
+no_reserved_atom lexemes h = by_word _ _ _ _ _ refl refl refl refl refl h where
+  by_word : (null count sum min max : Option (List Lexeme)) → after (Word (codes "null")) lexemes ≡ null → after (Word (codes "count")) lexemes ≡ count → after (Word (codes "sum")) lexemes ≡ sum → after (Word (codes "min")) lexemes ≡ min → after (Word (codes "max")) lexemes ≡ max → (is_some null || is_some count || is_some sum || is_some min || is_some max) ≡ false → reserved_atom_of lexemes ≡ None
+  by_word (Some rest) count sum min max a b c d e h = cc
+  by_word None (Some rest) sum min max a b c d e h = cc
+  by_word None None (Some rest) min max a b c d e h = cc
+  by_word None None None (Some rest) max a b c d e h = cc
+  by_word None None None None (Some rest) a b c d e h = cc
+  by_word None None None None None a b c d e h = rw (a, b, c, d, e) refl
+
+-- what begins with any other word is a column, if anything
+pub column_first : (lexemes : List Lexeme) → begins_with_word lexemes ≡ true → begins_reserved_atom lexemes ≡ false → atom_of lexemes ≡ column_atom_of lexemes
+unfolding atom_of column_atom_of column_of name_of
+column_first [] w h = cc
+column_first (Word name ∷ rest) w h = by_name (is_reserved_name name) refl where
+  by_name : (r : Bool) → is_reserved_name name ≡ r → atom_of (Word name ∷ rest) ≡ column_atom_of (Word name ∷ rest)
+  by_name true r = rw r (no_reserved_atom (Word name ∷ rest) h)
+  by_name false r = rw r refl
+column_first (Number value ∷ rest) w h = cc
+column_first (Quoted text ∷ rest) w h = cc
+column_first (Sign sign ∷ rest) w h = cc
 
 -- a column begins with a name
 column_begins : (front more : List Lexeme) (qualifier : Option (List ℕ)) (name : List ℕ) → SpellsNamed front qualifier name → begins_with_name (front ++ more) ≡ true

@@ -4,6 +4,7 @@ use Rattle.std.specs.Option.{option_and_then}
 use Rattle.std.specs.Prelude.{codes}
 use Rattle.mt_lexer.specs.declared.token.Symbol.TheVariants as symbol
 use Rattle.mt_lexer.specs.Tokens.{Lexeme, Word, Sign}
+use Rattle.mt_value.specs.declared.truth.Cmp.{Cmp}
 use Rattle.mt_tree.specs.declared.expression.Atom.{Atom}
 use Rattle.mt_tree.specs.declared.expression.Cond.{Cond}
 use Rattle.mt_tree.specs.declared.expression.Cond.TheVariants as cond
@@ -18,70 +19,116 @@ use Rattle.mt_reader.proofs.Joining.{joined_sound, joined_complete_before}
 use Rattle.mt_reader.proofs.Spelling.{IsSound, IsCompleteBefore, Shrinks, sound_shrinks, separated_nonempty, after_is}
 use Rattle.mt_terms.specs.declared.test.Test.{Test}
 use Rattle.mt_terms.specs.declared.test.Test.TheVariants as test
-use Rattle.mt_terms.specs.Condition.{AtomThen, SpellsPlain, SpellsOr, SpellsNeg, SpellsCond}
+use Rattle.mt_terms.specs.Condition.{comparison_symbol, AtomThen, SpellsPlain, SpellsOr, SpellsNeg, SpellsCond}
 use Rattle.mt_terms.specs.Expression.{SpellsAtom}
-use Rattle.mt_terms.specs.Descent.{atom_of, literal_atom_of, reserved_atom_of, agg_of, test_of, cond_with, plain_of, and_of, or_of, denied_of, neg_of, cond_of}
+use Rattle.mt_terms.specs.Descent.{atom_of, literal_atom_of, reserved_atom_of, agg_of, compare_of, said_of, cond_with, compared_of, said_with, tested_behind, plain_of, and_of, or_of, denied_of, neg_of, cond_of}
 use Rattle.mt_terms.proofs.Atoms.{NoDot, atom_sound, atom_complete, atom_nonempty}
-use Rattle.mt_terms.proofs.Predicates.{SpellsTest, test_sound, test_complete, test_ends}
+use Rattle.mt_terms.proofs.Predicates.{SpellsTest, compare_is, compare_read, said_sound, no_compare, said_complete, said_begins, word_ends, compare_ends}
 
 -- predicates
 
--- an atom and what is said of it spell a predicate
+-- an atom, a sign that compares and another atom are a comparison
+module _ (lexemes mid : List Lexeme) (a : Atom) (first : atom_of lexemes ≡ Some (a, mid)) where
+  pub plain_of-compared : (behind : List Lexeme) (op : Cmp) → compare_of mid ≡ Some (op, behind) → plain_of lexemes ≡ compared_of op a behind
+  unfolding plain_of
+  plain_of-compared behind op sign = rw (first, sign) refl
+
+  -- an atom and what a word says of it are another predicate
+  pub plain_of-said : compare_of mid ≡ None → plain_of lexemes ≡ said_with a mid
+  unfolding plain_of
+  plain_of-said none = rw (first, none) refl
+
+-- an atom and what a word says of it spell a predicate
 with_spelled : (tokens : List Lexeme) (a : Atom) (t : Test) → AtomThen a (λ back. SpellsTest back t) tokens → SpellsPlain tokens (cond_with a t)
-with_spelled tokens a (test.Compare op right) s = s
 with_spelled tokens a (test.Member negated list) s = s
 with_spelled tokens a (test.Between negated low high) s = s
 with_spelled tokens a (test.Like negated pattern) s = s
 with_spelled tokens a (test.IsNull negated) s = s
 
--- a predicate is an atom and what is said of it
-pub record IsWith (tokens : List Lexeme) (c : Cond) : Type 0 where
-  pub atom : Atom
-  pub test : Test
-  pub is : c ≡ cond_with atom test
-  pub spelled : AtomThen atom (λ back. SpellsTest back test) tokens
+module _ (lexemes mid rest : List Lexeme) (a : Atom) (c : Cond) (s : Begins SpellsAtom lexemes mid a) where
+  -- what is read as a comparison is one
+  compared_sound : (behind : List Lexeme) (op : Cmp) → compare_of mid ≡ Some (op, behind) → compared_of op a behind ≡ Some (c, rest) → Begins SpellsPlain lexemes rest c
+  compared_sound behind op h e =
+      let b = bind_some (atom_of behind) _ (c, rest) e in
+      let t = atom_sound behind b.0.1 b.0.0 b.1 in
+      let back = Sign (comparison_symbol op) ∷ t.front in
+      let taken : mid ≡ back ++ rest = compare_is mid behind op h ∙ ap (λ ls. Sign (comparison_symbol op) ∷ ls) (t.whole ∙ ap (λ ls. t.front ++ ls) (same_rest b.2)) in
+      record {
+        front = s.front ++ back;
+        whole = s.whole ∙ ap (λ ls. s.front ++ ls) taken ∙ sym (append_assoc s.front back rest);
+        spelled = subst (SpellsPlain (s.front ++ back)) (same_tree b.2) (record {
+          front = s.front;
+          back = back;
+          split = refl;
+          is_left = s.spelled;
+          is_right = record { inner = t.front; prefix = refl; body = t.spelled };
+        });
+      }
 
-plain_is : (tokens : List Lexeme) (c : Cond) → SpellsPlain tokens c → IsWith tokens c
-plain_is tokens (cond.Compare op left right) s = record { atom = left; test = test.Compare op right; is = refl; spelled = s }
-plain_is tokens (cond.Member negated a list) s = record { atom = a; test = test.Member negated list; is = refl; spelled = s }
-plain_is tokens (cond.Between negated a low high) s = record { atom = a; test = test.Between negated low high; is = refl; spelled = s }
-plain_is tokens (cond.Like negated a pattern) s = record { atom = a; test = test.Like negated pattern; is = refl; spelled = s }
-plain_is tokens (cond.IsNull negated a) s = record { atom = a; test = test.IsNull negated; is = refl; spelled = s }
-plain_is tokens other s = elim s [ ]
+  -- what is read with a word is a predicate
+  said_with_sound : said_with a mid ≡ Some (c, rest) → Begins SpellsPlain lexemes rest c
+  said_with_sound e =
+      let b = bind_some (said_of mid) _ (c, rest) e in
+      let t = said_sound mid b.0.1 b.0.0 b.1 in
+      record {
+        front = s.front ++ t.front;
+        whole = s.whole ∙ ap (λ ls. s.front ++ ls) (t.whole ∙ ap (λ ls. t.front ++ ls) (same_rest b.2)) ∙ sym (append_assoc s.front t.front rest);
+        spelled = subst (SpellsPlain (s.front ++ t.front)) (same_tree b.2) (with_spelled (s.front ++ t.front) a b.0.0 (record { front = s.front; back = t.front; split = refl; is_left = s.spelled; is_right = t.spelled }));
+      }
 
 -- what is read is a predicate
 plain_sound : IsSound SpellsPlain plain_of
 unfolding plain_of
 plain_sound lexemes rest c e =
     let a = bind_some (atom_of lexemes) _ (c, rest) e in
-    let b = bind_some (test_of a.0.1) _ (c, rest) a.2 in
-    let s = atom_sound lexemes a.0.1 a.0.0 a.1 in
-    let t = test_sound a.0.1 b.0.1 b.0.0 b.1 in
-    record {
-      front = s.front ++ t.front;
-      whole = s.whole ∙ ap (λ ls. s.front ++ ls) (t.whole ∙ ap (λ ls. t.front ++ ls) (same_rest b.2)) ∙ sym (append_assoc s.front t.front rest);
-      spelled = subst (SpellsPlain (s.front ++ t.front)) (same_tree b.2) (with_spelled (s.front ++ t.front) a.0.0 b.0.0 (record { front = s.front; back = t.front; split = refl; is_left = s.spelled; is_right = t.spelled }));
-    }
+    by_sign a.0.0 a.0.1 (atom_sound lexemes a.0.1 a.0.0 a.1) (compare_of a.0.1) refl a.2 where
+      by_sign : (a : Atom) (mid : List Lexeme) → Begins SpellsAtom lexemes mid a → (sign : Option (Cmp × List Lexeme)) → compare_of mid ≡ sign → tested_behind a sign mid ≡ Some (c, rest) → Begins SpellsPlain lexemes rest c
+      by_sign a mid s (Some sign) h e = compared_sound lexemes mid rest a c s sign.1 sign.0 h e
+      by_sign a mid s None h e = said_with_sound lexemes mid rest a c s e
 
--- an atom and what is said of it are read
-with_complete : (front back more : List Lexeme) (a : Atom) (t : Test) → NoDot more → SpellsAtom front a → SpellsTest back t → plain_of (front ++ (back ++ more)) ≡ Some (cond_with a t, more)
+-- a comparison is read
+compared_complete : (front more : List Lexeme) (op : Cmp) (left right : Atom) → NoDot more → SpellsPlain front (cond.Compare op left right) → plain_of (front ++ more) ≡ Some (cond.Compare op left right, more)
 unfolding plain_of
-with_complete front back more a t end f s = rw (atom_complete front (back ++ more) a (test_ends back more t s) f, test_complete back more t end s) refl
+compared_complete front more op left right end s =
+    let rest = s.is_right.inner ++ more in
+    let all : front ++ more ≡ s.front ++ Sign (comparison_symbol op) ∷ rest =
+    ap (λ ls. ls ++ more) s.split ∙ append_assoc s.front s.back more ∙ ap (λ ls. s.front ++ (ls ++ more)) s.is_right.prefix in
+    let first = atom_complete s.front (Sign (comparison_symbol op) ∷ rest) left (compare_ends op rest) s.is_left in
+    let second = atom_complete s.is_right.inner more right end s.is_right.body in
+    ap plain_of all ∙ rw (first, compare_read op rest, second) refl
+
+-- an atom and what a word says of it are read
+with_complete : (front more : List Lexeme) (a : Atom) (t : Test) → NoDot more → AtomThen a (λ back. SpellsTest back t) front → plain_of (front ++ more) ≡ Some (cond_with a t, more)
+unfolding plain_of
+with_complete front more a t end s =
+    let w = said_begins s.back more t s.is_right in
+    let dot : NoDot (s.back ++ more) = subst NoDot (sym w.split) (word_ends w.word w.rest) in
+    let sign : compare_of (s.back ++ more) ≡ None = ap compare_of w.split ∙ no_compare w.word w.rest in
+    ap (λ ls. plain_of (ls ++ more)) s.split
+    ∙ ap plain_of (append_assoc s.front s.back more)
+    ∙ rw (atom_complete s.front (s.back ++ more) a dot s.is_left, sign, said_complete s.back more t end s.is_right) refl
 
 -- a predicate is read, where no dot follows
 plain_complete : IsCompleteBefore SpellsPlain NoDot plain_of
-plain_complete front more c end s =
-    let w = plain_is front c s in
-    ap (λ ls. plain_of (ls ++ more)) w.spelled.split
-    ∙ ap plain_of (append_assoc w.spelled.front w.spelled.back more)
-    ∙ with_complete w.spelled.front w.spelled.back more w.atom w.test end w.spelled.is_left w.spelled.is_right
-    ∙ ap (λ tree. Some (tree, more)) (sym w.is)
+plain_complete front more (cond.Compare op left right) end s = compared_complete front more op left right end s
+plain_complete front more (cond.Member negated a list) end s = with_complete front more a (test.Member negated list) end s
+plain_complete front more (cond.Between negated a low high) end s = with_complete front more a (test.Between negated low high) end s
+plain_complete front more (cond.Like negated a pattern) end s = with_complete front more a (test.Like negated pattern) end s
+plain_complete front more (cond.IsNull negated a) end s = with_complete front more a (test.IsNull negated) end s
+plain_complete front more other end s = elim s [ ]
 
--- a predicate has a lexeme at least
+-- what begins with an atom has a lexeme at least
+then_nonempty : (a : Atom) (more : List Lexeme → Type 0) (front : List Lexeme) → AtomThen a more front → 0 < length front
+then_nonempty a more front s = omega (arith, ap length s.split, length-append s.front s.back, atom_nonempty s.front a s.is_left)
+
+-- and so has a predicate
 plain_nonempty : (front : List Lexeme) (c : Cond) → SpellsPlain front c → 0 < length front
-plain_nonempty front c s =
-    let w = plain_is front c s in
-    omega (arith, ap length w.spelled.split, length-append w.spelled.front w.spelled.back, atom_nonempty w.spelled.front w.atom w.spelled.is_left)
+plain_nonempty front (cond.Compare op a right) s = then_nonempty a _ front s
+plain_nonempty front (cond.Member negated a list) s = then_nonempty a _ front s
+plain_nonempty front (cond.Between negated a low high) s = then_nonempty a _ front s
+plain_nonempty front (cond.Like negated a pattern) s = then_nonempty a _ front s
+plain_nonempty front (cond.IsNull negated a) s = then_nonempty a _ front s
+plain_nonempty front other s = elim s [ ]
 
 -- neither NOT nor a bracket begins a predicate
 no_plain_not : (left : List Lexeme) → plain_of (Word (codes "not") ∷ left) ≡ None

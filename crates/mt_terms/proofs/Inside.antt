@@ -136,9 +136,6 @@ keeps_between negated = keeps_both IsAtomInside IsAtomInside IsTestInside (test.
 pub keeps_like : (negated : Bool) (kept : Option Atom) (a : Atom) → Keeps IsAtomInside kept a → Keeps IsTestInside (option_map (test.Like negated) kept) (test.Like negated a)
 keeps_like negated = keeps_map IsAtomInside IsTestInside (test.Like negated) (λ a h. h) (λ a h. h)
 
-pub keeps_compare : (op : Cmp) (kept : Option Atom) (a : Atom) → Keeps IsAtomInside kept a → Keeps IsTestInside (option_map (test.Compare op) kept) (test.Compare op a)
-keeps_compare op = keeps_map IsAtomInside IsTestInside (test.Compare op) (λ a h. h) (λ a h. h)
-
 -- conditions
 
 -- of members of AND or OR
@@ -163,7 +160,6 @@ cond_literals-Not c = ap cond_literals (sym (rolls-Not c)) ∙ fold-roll-Cond (L
 -- of a predicate
 cond_literals-with : (a : Atom) (t : Test) → cond_literals (cond_with a t) ≡ atom_literals a ++ test_literals t
 unfolding cond_literals
-cond_literals-with a (test.Compare op right) = ap cond_literals (sym (rolls-Compare op a right)) ∙ fold-roll-Cond (List Literal) cond_step (Cond-F.Compare op a right)
 cond_literals-with a (test.Member negated list) = ap cond_literals (sym (rolls-Member negated a list)) ∙ fold-roll-Cond (List Literal) cond_step (Cond-F.Member negated a list)
 cond_literals-with a (test.Between negated low high) = ap cond_literals (sym (rolls-Between negated a low high)) ∙ fold-roll-Cond (List Literal) cond_step (Cond-F.Between negated a low high)
 cond_literals-with a (test.Like negated pattern) = ap cond_literals (sym (rolls-Like negated a pattern)) ∙ fold-roll-Cond (List Literal) cond_step (Cond-F.Like negated a pattern)
@@ -176,6 +172,17 @@ inside_with a t h k = rw (cond_literals-with a t) (All-append IsLiteralInside (a
 with_inside : (a : Atom) (t : Test) → IsCondInside (cond_with a t) → IsAtomInside a × IsTestInside t
 with_inside a t h = All-append_parts IsLiteralInside (atom_literals a) (test_literals t) (rw (cond_literals-with a t) at h)
 
+-- a comparison is inside where both atoms are
+cond_literals-Compare : (op : Cmp) (a b : Atom) → cond_literals (cond.Compare op a b) ≡ atom_literals a ++ atom_literals b
+unfolding cond_literals
+cond_literals-Compare op a b = ap cond_literals (sym (rolls-Compare op a b)) ∙ fold-roll-Cond (List Literal) cond_step (Cond-F.Compare op a b)
+
+inside_compare : (op : Cmp) (a b : Atom) → IsAtomInside a → IsAtomInside b → IsCondInside (cond.Compare op a b)
+inside_compare op a b h k = rw (cond_literals-Compare op a b) (All-append IsLiteralInside (atom_literals a) (atom_literals b) h k)
+
+compare_inside : (op : Cmp) (a b : Atom) → IsCondInside (cond.Compare op a b) → IsAtomInside a × IsAtomInside b
+compare_inside op a b h = All-append_parts IsLiteralInside (atom_literals a) (atom_literals b) (rw (cond_literals-Compare op a b) at h)
+
 -- conditions that are joined are inside where all are
 module _ (join : List Cond → Cond) (literals : (cs : List Cond) → cond_literals (join cs) ≡ flat_map cond_literals cs) where
   inside_all : (cs : List Cond) → All IsCondInside cs → IsCondInside (join cs)
@@ -187,6 +194,9 @@ module _ (join : List Cond → Cond) (literals : (cs : List Cond) → cond_liter
 -- what is kept of a predicate, of NOT, of AND and of OR is kept of their parts
 pub keeps_with : (kept : Option Atom) (a : Atom) (held : Option Test) (t : Test) → Keeps IsAtomInside kept a → Keeps IsTestInside held t → Keeps IsCondInside (both cond_with kept held) (cond_with a t)
 keeps_with = keeps_both IsAtomInside IsTestInside IsCondInside cond_with inside_with with_inside
+
+pub keeps_compare : (op : Cmp) (left : Option Atom) (a : Atom) (right : Option Atom) (b : Atom) → Keeps IsAtomInside left a → Keeps IsAtomInside right b → Keeps IsCondInside (both (cond.Compare op) left right) (cond.Compare op a b)
+keeps_compare op = keeps_both IsAtomInside IsAtomInside IsCondInside (cond.Compare op) (inside_compare op) (compare_inside op)
 
 pub keeps_not : (kept : Option Cond) (c : Cond) → Keeps IsCondInside kept c → Keeps IsCondInside (option_map cond.Not kept) (cond.Not c)
 keeps_not = keeps_map IsCondInside IsCondInside cond.Not (λ c h. rw (cond_literals-Not c) h) (λ c h. rw (cond_literals-Not c) at h)

@@ -1,5 +1,5 @@
 -- What a predicate says of its first atom: what is read is spelled so, and what is spelled so is read.
-use Rattle.std.proofs.Common.{◌≡◌, ℕ, Bool, true, false, Option, Some, None, List, [], ◌∷◌, ◌++◌, drop, refl, sym, ap, ◌∙◌, subst, append_assoc}
+use Rattle.std.proofs.Common.{◌≡◌, ℕ, Bool, true, false, Some, None, List, [], ◌∷◌, ◌++◌, drop, refl, sym, ap, ◌∙◌, subst, append_assoc}
 use Rattle.std.specs.Prelude.{codes}
 use Rattle.mt_lexer.specs.declared.token.Symbol.{Symbol}
 use Rattle.mt_lexer.specs.declared.token.Symbol.TheVariants as symbol
@@ -18,13 +18,12 @@ use Rattle.mt_terms.specs.declared.test.Test.{Test}
 use Rattle.mt_terms.specs.declared.test.Test.TheVariants as test
 use Rattle.mt_terms.specs.Condition.{comparison_symbol, SpellsNot, AtomThen, NotThen, WordThen}
 use Rattle.mt_terms.specs.Expression.{SpellsAtom}
-use Rattle.mt_terms.specs.Descent.{atom_of, cmp_of, compare_of, member_of, between_of, like_of, worded_of, null_of, tested_of, said_of, compare_behind, test_of}
+use Rattle.mt_terms.specs.Descent.{atom_of, cmp_of, compare_of, member_of, between_of, like_of, worded_of, null_of, tested_of, said_of}
 use Rattle.mt_terms.proofs.Atoms.{NoDot, atom_sound, atom_complete, atom_shrinks}
 use Rattle.mt_terms.proofs.Tails.{first_symbol_is}
 
--- what stands behind the first atom of a predicate
+-- what a word says of the first atom of a predicate
 abbrev pub SpellsTest : List Lexeme → Test → Type 0
-SpellsTest tokens (test.Compare op right) = Behind (Sign (comparison_symbol op) ∷ []) SpellsAtom tokens right
 SpellsTest tokens (test.Member negated list) = NotThen negated (WordThen (codes "in") (λ back. Bracketed (Commas SpellsAtom) back list)) tokens
 SpellsTest tokens (test.Between negated low high) = NotThen negated (WordThen (codes "between") (AtomThen low (λ back. Behind (Word (codes "and") ∷ []) SpellsAtom back high))) tokens
 SpellsTest tokens (test.Like negated pattern) = NotThen negated (λ back. Behind (Word (codes "like") ∷ []) SpellsAtom back pattern) tokens
@@ -59,7 +58,7 @@ cmp_of-comparison_symbol Gt = refl
 cmp_of-comparison_symbol Ge = refl
 
 -- a comparison is one lexeme
-compare_is : (lexemes rest : List Lexeme) (op : Cmp) → compare_of lexemes ≡ Some (op, rest) → lexemes ≡ Sign (comparison_symbol op) ∷ rest
+pub compare_is : (lexemes rest : List Lexeme) (op : Cmp) → compare_of lexemes ≡ Some (op, rest) → lexemes ≡ Sign (comparison_symbol op) ∷ rest
 unfolding compare_of
 compare_is lexemes rest op e =
     let a = bind_some (first_symbol lexemes) _ (op, rest) e in
@@ -69,8 +68,8 @@ compare_is lexemes rest op e =
     ∙ ap (λ op. Sign (comparison_symbol op) ∷ drop 1 lexemes) (same_tree b.2)
     ∙ ap (λ ls. Sign (comparison_symbol op) ∷ ls) (same_rest b.2)
 
--- a comparison is read
-compare_read : (op : Cmp) (rest : List Lexeme) → compare_of (Sign (comparison_symbol op) ∷ rest) ≡ Some (op, rest)
+-- a sign that compares is read
+pub compare_read : (op : Cmp) (rest : List Lexeme) → compare_of (Sign (comparison_symbol op) ∷ rest) ≡ Some (op, rest)
 unfolding compare_of
 compare_read op rest = rw (cmp_of-comparison_symbol op) refl
 
@@ -196,8 +195,8 @@ tested_sound lexemes left rest t h e =
     (λ e. null_sound false lexemes left rest t h e)
     e
 
--- what begins with a word
-said_sound : IsSound SpellsTest said_of
+-- what is read behind a word is spelled so
+pub said_sound : IsSound SpellsTest said_of
 unfolding said_of not_front
 said_sound lexemes rest t e =
     either_some (after (Word (codes "is")) lexemes) tested_of _ (t, rest) (λ left a e. tested_sound lexemes left rest t (after_is _ lexemes left a) e)
@@ -205,51 +204,35 @@ said_sound lexemes rest t e =
     (λ left a e. worded_sound true lexemes left rest t (after_is _ lexemes left a) e)
     (λ e. worded_sound false lexemes lexemes rest t refl e) e) e
 
--- what is read is what a predicate says
-pub test_sound : IsSound SpellsTest test_of
-unfolding test_of
-test_sound lexemes rest t e = by_compare (compare_of lexemes) refl e where
-  by_compare : (sign : Option (Cmp × List Lexeme)) → compare_of lexemes ≡ sign → compare_behind sign lexemes ≡ Some (t, rest) → Begins SpellsTest lexemes rest t
-  by_compare (Some sign) a e =
-      let b = bind_some (atom_of sign.1) _ (t, rest) e in
-      let s = atom_sound sign.1 b.0.1 b.0.0 b.1 in
-      let front = Sign (comparison_symbol sign.0) ∷ s.front in
-      record {
-        front = front;
-        whole = compare_is lexemes sign.1 sign.0 a ∙ ap (λ ls. Sign (comparison_symbol sign.0) ∷ ls) (s.whole ∙ ap (λ ls. s.front ++ ls) (same_rest b.2));
-        spelled = subst (SpellsTest front) (same_tree b.2) (record { inner = s.front; prefix = refl; body = s.spelled });
-      }
-  by_compare None a e = said_sound lexemes rest t e
-
 -- what is spelled so is read
 
 -- words behind NOT, or without, are read by their first
-not_test : (rest : List Lexeme) → test_of (Word (codes "not") ∷ rest) ≡ worded_of true rest
-unfolding test_of compare_of said_of after
-not_test rest = refl
+not_said : (rest : List Lexeme) → said_of (Word (codes "not") ∷ rest) ≡ worded_of true rest
+unfolding said_of after
+not_said rest = refl
 
 -- behind NOT, if there is one, a word is read
-flagged_test : (word : List ℕ) → ((rest : List Lexeme) → test_of (Word word ∷ rest) ≡ worded_of false (Word word ∷ rest)) → (negated : Bool) (front rest : List Lexeme) → SpellsNot front negated → test_of (front ++ Word word ∷ rest) ≡ worded_of negated (Word word ∷ rest)
-flagged_test word plain true front rest s = ap (λ ls. test_of (ls ++ Word word ∷ rest)) s ∙ not_test (Word word ∷ rest)
-flagged_test word plain false front rest s = ap (λ ls. test_of (ls ++ Word word ∷ rest)) s ∙ plain rest
+flagged_said : (word : List ℕ) → ((rest : List Lexeme) → said_of (Word word ∷ rest) ≡ worded_of false (Word word ∷ rest)) → (negated : Bool) (front rest : List Lexeme) → SpellsNot front negated → said_of (front ++ Word word ∷ rest) ≡ worded_of negated (Word word ∷ rest)
+flagged_said word plain true front rest s = ap (λ ls. said_of (ls ++ Word word ∷ rest)) s ∙ not_said (Word word ∷ rest)
+flagged_said word plain false front rest s = ap (λ ls. said_of (ls ++ Word word ∷ rest)) s ∙ plain rest
+
+-- before a word there is no sign that compares
+pub no_compare : (word : List ℕ) (rest : List Lexeme) → compare_of (Word word ∷ rest) ≡ None
+unfolding compare_of
+no_compare word rest = refl
 
 -- the three words
-in_test : (negated : Bool) (front rest : List Lexeme) → SpellsNot front negated → test_of (front ++ Word (codes "in") ∷ rest) ≡ member_of negated rest
-unfolding test_of compare_of said_of worded_of after
-in_test negated front rest s = flagged_test (codes "in") (λ rest. refl) negated front rest s
+in_said : (negated : Bool) (front rest : List Lexeme) → SpellsNot front negated → said_of (front ++ Word (codes "in") ∷ rest) ≡ member_of negated rest
+unfolding said_of worded_of after
+in_said negated front rest s = flagged_said (codes "in") (λ rest. refl) negated front rest s
 
-between_test : (negated : Bool) (front rest : List Lexeme) → SpellsNot front negated → test_of (front ++ Word (codes "between") ∷ rest) ≡ between_of negated rest
-unfolding test_of compare_of said_of worded_of after
-between_test negated front rest s = flagged_test (codes "between") (λ rest. refl) negated front rest s
+between_said : (negated : Bool) (front rest : List Lexeme) → SpellsNot front negated → said_of (front ++ Word (codes "between") ∷ rest) ≡ between_of negated rest
+unfolding said_of worded_of after
+between_said negated front rest s = flagged_said (codes "between") (λ rest. refl) negated front rest s
 
-like_test : (negated : Bool) (front rest : List Lexeme) → SpellsNot front negated → test_of (front ++ Word (codes "like") ∷ rest) ≡ like_of negated rest
-unfolding test_of compare_of said_of worded_of after
-like_test negated front rest s = flagged_test (codes "like") (λ rest. refl) negated front rest s
-
--- a comparison is read as a test
-compare_complete : (op : Cmp) (rest more : List Lexeme) (right : Atom) → atom_of rest ≡ Some (right, more) → test_of (Sign (comparison_symbol op) ∷ rest) ≡ Some (test.Compare op right, more)
-unfolding test_of
-compare_complete op rest more right read = rw (compare_read op rest, read) refl
+like_said : (negated : Bool) (front rest : List Lexeme) → SpellsNot front negated → said_of (front ++ Word (codes "like") ∷ rest) ≡ like_of negated rest
+unfolding said_of worded_of after
+like_said negated front rest s = flagged_said (codes "like") (λ rest. refl) negated front rest s
 
 -- a list is read
 member_complete : (negated : Bool) (front more : List Lexeme) (list : List Atom) → Bracketed (Commas SpellsAtom) front list → member_of negated (front ++ more) ≡ Some (test.Member negated list, more)
@@ -271,21 +254,19 @@ unfolding like_of
 like_complete negated front more pattern end s = rw (atom_complete front more pattern end s) refl
 
 -- NULL is read, with NOT or without
-null_complete : (negated : Bool) (front more : List Lexeme) → SpellsNot front negated → test_of (Word (codes "is") ∷ (front ++ Word (codes "null") ∷ more)) ≡ Some (test.IsNull negated, more)
-unfolding test_of compare_of said_of tested_of after
+null_complete : (negated : Bool) (front more : List Lexeme) → SpellsNot front negated → said_of (Word (codes "is") ∷ (front ++ Word (codes "null") ∷ more)) ≡ Some (test.IsNull negated, more)
+unfolding said_of tested_of after
 null_complete true front more s = rw s refl
 null_complete false front more s = rw s refl
 
--- what a predicate says is read, where no dot follows
-pub test_complete : IsCompleteBefore SpellsTest NoDot test_of
-test_complete front more (test.Compare op right) end s =
-    ap (λ ls. test_of (ls ++ more)) s.prefix ∙ compare_complete op (s.inner ++ more) more right (atom_complete s.inner more right end s.body)
-test_complete front more (test.Member negated list) end s =
+-- what a word says is read, where no dot follows
+pub said_complete : IsCompleteBefore SpellsTest NoDot said_of
+said_complete front more (test.Member negated list) end s =
     let list_tokens = s.is_right.back in
     let back : s.back ++ more ≡ Word (codes "in") ∷ (list_tokens ++ more) = ap (λ ls. ls ++ more) (s.is_right.split ∙ ap (λ ls. ls ++ list_tokens) s.is_right.is_left) in
     let all : front ++ more ≡ s.front ++ Word (codes "in") ∷ (list_tokens ++ more) = ap (λ ls. ls ++ more) s.split ∙ append_assoc s.front s.back more ∙ ap (λ ls. s.front ++ ls) back in
-    ap test_of all ∙ in_test negated s.front (list_tokens ++ more) s.is_left ∙ member_complete negated list_tokens more list s.is_right.is_right
-test_complete front more (test.Between negated low high) end s =
+    ap said_of all ∙ in_said negated s.front (list_tokens ++ more) s.is_left ∙ member_complete negated list_tokens more list s.is_right.is_right
+said_complete front more (test.Between negated low high) end s =
     let p = s.is_right.is_right in
     let h = p.is_right in
     let rest = p.front ++ Word (codes "and") ∷ (h.inner ++ more) in
@@ -293,40 +274,50 @@ test_complete front more (test.Between negated low high) end s =
     ap (λ ls. ls ++ more) (s.is_right.split ∙ ap (λ ls. ls ++ s.is_right.back) s.is_right.is_left ∙ ap (λ ls. Word (codes "between") ∷ ls) (p.split ∙ ap (λ ls. p.front ++ ls) h.prefix))
     ∙ ap (λ ls. Word (codes "between") ∷ ls) (append_assoc p.front (Word (codes "and") ∷ h.inner) more) in
     let all : front ++ more ≡ s.front ++ Word (codes "between") ∷ rest = ap (λ ls. ls ++ more) s.split ∙ append_assoc s.front s.back more ∙ ap (λ ls. s.front ++ ls) back in
-    ap test_of all ∙ between_test negated s.front rest s.is_left ∙ between_complete negated p.front h.inner more low high end p.is_left h.body
-test_complete front more (test.Like negated pattern) end s =
+    ap said_of all ∙ between_said negated s.front rest s.is_left ∙ between_complete negated p.front h.inner more low high end p.is_left h.body
+said_complete front more (test.Like negated pattern) end s =
     let l = s.is_right in
     let all : front ++ more ≡ s.front ++ Word (codes "like") ∷ (l.inner ++ more) =
     ap (λ ls. ls ++ more) s.split ∙ append_assoc s.front s.back more ∙ ap (λ ls. s.front ++ (ls ++ more)) l.prefix in
-    ap test_of all ∙ like_test negated s.front (l.inner ++ more) s.is_left ∙ like_complete negated l.inner more pattern end l.body
-test_complete front more (test.IsNull negated) end s =
+    ap said_of all ∙ like_said negated s.front (l.inner ++ more) s.is_left ∙ like_complete negated l.inner more pattern end l.body
+said_complete front more (test.IsNull negated) end s =
     let n = s.is_right in
     let all : front ++ more ≡ Word (codes "is") ∷ (n.front ++ Word (codes "null") ∷ more) =
     ap (λ ls. ls ++ more) (s.split ∙ ap (λ ls. ls ++ s.back) s.is_left ∙ ap (λ ls. Word (codes "is") ∷ ls) (n.split ∙ ap (λ ls. n.front ++ ls) n.is_right))
     ∙ ap (λ ls. Word (codes "is") ∷ ls) (append_assoc n.front (Word (codes "null") ∷ []) more) in
-    ap test_of all ∙ null_complete negated n.front more n.is_left
+    ap said_of all ∙ null_complete negated n.front more n.is_left
 
--- before NOT, or what follows without it, there is no dot
-flag_ends : (negated : Bool) (front back more : List Lexeme) → SpellsNot front negated → NoDot (back ++ more) → (whole : List Lexeme) → whole ≡ front ++ back → NoDot (whole ++ more)
-unfolding after
-flag_ends true front back more s end whole e = rw (e, s) refl
-flag_ends false front back more s end whole e = rw (e, s) end
+-- a word comes first
+pub record BeginsWithWord (tokens : List Lexeme) : Type 0 where
+  pub word : List ℕ
+  pub rest : List Lexeme
+  pub split : tokens ≡ Word word ∷ rest
 
--- before what a predicate says there is no dot
-pub test_ends : (back more : List Lexeme) (t : Test) → SpellsTest back t → NoDot (back ++ more)
+-- NOT comes first, or what follows without it
+flag_begins : (negated : Bool) (front back more : List Lexeme) → SpellsNot front negated → BeginsWithWord (back ++ more) → (whole : List Lexeme) → whole ≡ front ++ back → BeginsWithWord (whole ++ more)
+flag_begins true front back more s w whole e = record { word = codes "not"; rest = back ++ more; split = rw (e, s) refl }
+flag_begins false front back more s w whole e = record { word = w.word; rest = w.rest; split = rw (e, s) w.split }
+
+-- what a word says of an atom begins with a word
+pub said_begins : (back more : List Lexeme) (t : Test) → SpellsTest back t → BeginsWithWord (back ++ more)
+said_begins back more (test.Member negated list) s =
+    flag_begins negated s.front s.back more s.is_left (record { word = codes "in"; rest = s.is_right.back ++ more; split = rw (s.is_right.split, s.is_right.is_left) refl }) back s.split
+said_begins back more (test.Between negated low high) s =
+    flag_begins negated s.front s.back more s.is_left (record { word = codes "between"; rest = s.is_right.back ++ more; split = rw (s.is_right.split, s.is_right.is_left) refl }) back s.split
+said_begins back more (test.Like negated pattern) s =
+    flag_begins negated s.front s.back more s.is_left (record { word = codes "like"; rest = s.is_right.inner ++ more; split = rw s.is_right.prefix refl }) back s.split
+said_begins back more (test.IsNull negated) s = record { word = codes "is"; rest = s.back ++ more; split = rw (s.split, s.is_left) refl }
+
+-- before a word, and before a sign that compares, there is no dot
+pub word_ends : (word : List ℕ) (rest : List Lexeme) → NoDot (Word word ∷ rest)
 unfolding after
-test_ends back more (test.Compare op right) s = rw s.prefix (no_dot op) where
-  no_dot : (op : Cmp) → NoDot (Sign (comparison_symbol op) ∷ (s.inner ++ more))
-  no_dot Eq = refl
-  no_dot Ne = refl
-  no_dot Lt = refl
-  no_dot Le = refl
-  no_dot Gt = refl
-  no_dot Ge = refl
-test_ends back more (test.Member negated list) s =
-    flag_ends negated s.front s.back more s.is_left (rw (s.is_right.split, s.is_right.is_left) refl) back s.split
-test_ends back more (test.Between negated low high) s =
-    flag_ends negated s.front s.back more s.is_left (rw (s.is_right.split, s.is_right.is_left) refl) back s.split
-test_ends back more (test.Like negated pattern) s =
-    flag_ends negated s.front s.back more s.is_left (rw s.is_right.prefix refl) back s.split
-test_ends back more (test.IsNull negated) s = rw (s.split, s.is_left) refl
+word_ends word rest = refl
+
+pub compare_ends : (op : Cmp) (rest : List Lexeme) → NoDot (Sign (comparison_symbol op) ∷ rest)
+unfolding after
+compare_ends Eq rest = refl
+compare_ends Ne rest = refl
+compare_ends Lt rest = refl
+compare_ends Le rest = refl
+compare_ends Gt rest = refl
+compare_ends Ge rest = refl

@@ -1,5 +1,5 @@
 -- One step of a reader of expressions.
-use Rattle.std.proofs.Common.{◌≡◌, ℕ, zero, suc, ◌-◌, ◌<◌, ◌≤◌, false, Option, Some, None, List, [], ◌∷◌, length, refl, ap, ◌∙◌, arith}
+use Rattle.std.proofs.Common.{◌≡◌, ℕ, zero, suc, ◌-◌, ◌<◌, ◌≤◌, true, false, Option, Some, None, List, [], ◌∷◌, length, refl, ap, ◌∙◌, arith}
 use Rattle.std.specs.Option.{is_some, option_and_then, option_map}
 use Rattle.mt_lexer.specs.declared.token.Symbol.TheVariants as symbol
 use Rattle.mt_lexer.specs.Tokens.{Lexeme, Sign}
@@ -7,7 +7,7 @@ use Rattle.mt_tree.specs.declared.expression.Expr.{Expr}
 use Rattle.mt_tree.specs.declared.expression.Expr.TheVariants as expr
 use Rattle.mt_tree.specs.declared.expression.Term.{Term}
 use Rattle.mt_reader.specs.declared.fault.ReadFault.{ReadFault}
-use Rattle.mt_reader.specs.Descent.{after, either, closed_of, with_front}
+use Rattle.mt_reader.specs.Descent.{after, either, closed_of, bracketed_of, with_front}
 use Rattle.mt_reader.specs.Taken.{Took, Fails}
 use Rattle.mt_reader.proofs.Joining.{is_none}
 use Rattle.mt_reader.proofs.Literals.{fails_bind}
@@ -16,9 +16,10 @@ use Rattle.mt_terms.specs.Inside.{IsExprInside, IsTermInside}
 use Rattle.mt_terms.proofs.Inside.{keeps_sum}
 use Rattle.mt_terms.proofs.Tails.{TermsSoFar, tail_of-end, terms_so_far_all}
 
--- what reads behind a sum in brackets
-abbrev bracket_behind : Expr × List Lexeme → Option (Expr × List Lexeme)
-bracket_behind inner = option_and_then (λ close. Some (inner.0, close)) (after (Sign symbol.Close) inner.1)
+-- what is there is read
+pub opened : {X : Type 0} (found : Option (List Lexeme)) (read : List Lexeme → Option X) (other : Option X) → is_some found ≡ true → either found read other ≡ option_and_then read found
+opened None read other h = cc
+opened (Some rest) read other h = refl
 
 -- two terms or more are a sum
 sum_many : (terms : List Term) → 2 ≤ length terms → sum_tree terms ≡ expr.Sum terms
@@ -66,32 +67,17 @@ factor_of-none zero lexemes h = refl
 factor_of-none (suc depth) lexemes h = absurd (omega arith)
 
 -- a bracket takes one of the depth
-pub factor_of-some : (depth : ℕ) (lexemes : List Lexeme) → 0 < depth → factor_of depth lexemes ≡ either (after (Sign symbol.Open) lexemes) (closed_of (sum_of (factor_of (depth - 1)))) (alone_of lexemes)
+factor_of-some : (depth : ℕ) (lexemes : List Lexeme) → 0 < depth → factor_of depth lexemes ≡ either (after (Sign symbol.Open) lexemes) (closed_of (sum_of (factor_of (depth - 1)))) (alone_of lexemes)
 unfolding factor_of
 factor_of-some zero lexemes h = absurd (omega arith)
 factor_of-some (suc depth) lexemes h = let same : depth ≡ suc depth - 1 = omega arith in ap (λ d. either (after (Sign symbol.Open) lexemes) (closed_of (sum_of (factor_of d))) (alone_of lexemes)) same
 
 -- where no bracket opens a factor is an atom
-pub factor_of-atom : (depth : ℕ) (lexemes : List Lexeme) → (depth ≡ 0 → ⊥) → after (Sign symbol.Open) lexemes ≡ None → factor_of depth lexemes ≡ alone_of lexemes
-factor_of-atom depth lexemes h a = factor_of-some depth lexemes (omega arith) ∙ ap (λ found. either found (closed_of (sum_of (factor_of (depth - 1)))) (alone_of lexemes)) a
+pub factor_of-atom : (depth : ℕ) (lexemes : List Lexeme) → (depth ≡ 0 → ⊥) → is_some (after (Sign symbol.Open) lexemes) ≡ false → factor_of depth lexemes ≡ alone_of lexemes
+factor_of-atom depth lexemes h a =
+    factor_of-some depth lexemes (omega arith) ∙ ap (λ found. either found (closed_of (sum_of (factor_of (depth - 1)))) (alone_of lexemes)) (is_none (after (Sign symbol.Open) lexemes) a)
 
 -- where a bracket opens a factor is a sum in brackets
-factor_of-open : (depth : ℕ) (lexemes mid : List Lexeme) → (depth ≡ 0 → ⊥) → after (Sign symbol.Open) lexemes ≡ Some mid → factor_of depth lexemes ≡ option_and_then bracket_behind (sum_of (factor_of (depth - 1)) mid)
-factor_of-open depth lexemes mid h a = factor_of-some depth lexemes (omega arith) ∙ ap (λ found. either found (closed_of (sum_of (factor_of (depth - 1)))) (alone_of lexemes)) a
-
--- why the sum in brackets fails
-pub factor_inner_fails : (depth : ℕ) (lexemes mid : List Lexeme) (e : ReadFault) → (depth ≡ 0 → ⊥) → after (Sign symbol.Open) lexemes ≡ Some mid → Fails e (sum_of (factor_of (depth - 1)) mid) → Fails e (factor_of depth lexemes)
-factor_inner_fails depth lexemes mid e h a f = rw (factor_of-open depth lexemes mid h a) (fails_bind e (sum_of (factor_of (depth - 1)) mid) bracket_behind f)
-
--- why the bracket that closes fails
-pub factor_close_fails : (depth : ℕ) (lexemes mid left : List Lexeme) (tree : Expr) (e : ReadFault) → (depth ≡ 0 → ⊥) → after (Sign symbol.Open) lexemes ≡ Some mid → sum_of (factor_of (depth - 1)) mid ≡ Some (tree, left) → Fails e (after (Sign symbol.Close) left) → Fails e (factor_of depth lexemes)
-factor_close_fails depth lexemes mid left tree e h a r f =
-    rw (factor_of-open depth lexemes mid h a, r) (fails_bind e (after (Sign symbol.Close) left) (λ close. Some (tree, close)) f)
-
--- a sum in brackets is taken
-pub factor_took : (depth : ℕ) (lexemes mid left rest : List Lexeme) (kept : Option Expr) → (depth ≡ 0 → ⊥) → after (Sign symbol.Open) lexemes ≡ Some mid → Took IsExprInside kept left (sum_of (factor_of (depth - 1)) mid) → after (Sign symbol.Close) left ≡ Some rest → Took IsExprInside kept rest (factor_of depth lexemes)
-factor_took depth lexemes mid left rest kept h a t c = record {
-  tree = t.tree;
-  reads = factor_of-open depth lexemes mid h a ∙ ap (option_and_then bracket_behind) t.reads ∙ ap (option_and_then (λ close. Some (t.tree, close))) c;
-  keeps = t.keeps;
-}
+pub factor_of-open : (depth : ℕ) (lexemes : List Lexeme) → (depth ≡ 0 → ⊥) → is_some (after (Sign symbol.Open) lexemes) ≡ true → factor_of depth lexemes ≡ bracketed_of (sum_of (factor_of (depth - 1))) lexemes
+unfolding bracketed_of
+factor_of-open depth lexemes h a = factor_of-some depth lexemes (omega arith) ∙ opened (after (Sign symbol.Open) lexemes) (closed_of (sum_of (factor_of (depth - 1)))) (alone_of lexemes) a

@@ -1,5 +1,5 @@
 -- The forms as functions, which read lexemes from the left: the tree, and the lexemes behind it.
-use Rattle.std.specs.Prelude.{ℕ, zero, suc, Bool, true, false, if◌then◌else◌, Option, Some, None, is_some, List, [], ◌∷◌, length, drop, codes}
+use Rattle.std.specs.Prelude.{ℕ, zero, suc, Bool, true, false, ◌||◌, if◌then◌else◌, Option, Some, None, is_some, List, [], ◌∷◌, length, drop, codes}
 use Rattle.mt_lexer.specs.declared.token.Symbol.{Symbol}
 use Rattle.mt_lexer.specs.declared.token.Symbol.TheVariants as symbol
 use Rattle.mt_value.specs.declared.truth.Cmp.{Cmp}
@@ -90,6 +90,15 @@ agg_atom_of lexemes = do
 -- what a reserved word begins: NULL, or an aggregate
 unfoldable pub reserved_atom_of : List Lexeme → Option (Atom × List Lexeme)
 reserved_atom_of lexemes = if is_some (after (Word (codes "null")) lexemes) then literal_atom_of lexemes else agg_atom_of lexemes
+
+-- whether a reserved word comes first that begins an atom
+abbrev pub begins_reserved_atom : List Lexeme → Bool
+begins_reserved_atom lexemes =
+    is_some (after (Word (codes "null")) lexemes)
+    || is_some (after (Word (codes "count")) lexemes)
+    || is_some (after (Word (codes "sum")) lexemes)
+    || is_some (after (Word (codes "min")) lexemes)
+    || is_some (after (Word (codes "max")) lexemes)
 
 -- an atom, by its first lexeme
 unfoldable pub atom_of : List Lexeme → Option (Atom × List Lexeme)
@@ -234,33 +243,37 @@ said_of lexemes =
     (either (after (Word (codes "not")) lexemes) (worded_of true)
     (worded_of false lexemes))
 
--- where there is no comparison, one of the others
-abbrev pub compare_behind : Option (Cmp × List Lexeme) → List Lexeme → Option (Test × List Lexeme)
-compare_behind (Some sign) lexemes = do
-  right ← atom_of sign.1
-  Some (test.Compare sign.0 right.0, right.1)
-compare_behind None lexemes = said_of lexemes
-
--- what stands behind the first atom of a predicate
-unfoldable pub test_of : List Lexeme → Option (Test × List Lexeme)
-test_of lexemes = compare_behind (compare_of lexemes) lexemes
-
 -- conditions
 
 -- an atom with what is said of it
 abbrev pub cond_with : Atom → Test → Cond
-cond_with atom (test.Compare op right) = cond.Compare op atom right
 cond_with atom (test.Member negated list) = cond.Member negated atom list
 cond_with atom (test.Between negated low high) = cond.Between negated atom low high
 cond_with atom (test.Like negated pattern) = cond.Like negated atom pattern
 cond_with atom (test.IsNull negated) = cond.IsNull negated atom
 
+-- a comparison with this atom, behind its sign
+abbrev pub compared_of : Cmp → Atom → List Lexeme → Option (Cond × List Lexeme)
+compared_of op atom lexemes = do
+  right ← atom_of lexemes
+  Some (cond.Compare op atom right.0, right.1)
+
+-- what else is said of this atom
+abbrev pub said_with : Atom → List Lexeme → Option (Cond × List Lexeme)
+said_with atom lexemes = do
+  said ← said_of lexemes
+  Some (cond_with atom said.0, said.1)
+
+-- behind the first atom: a sign that compares, or a word
+abbrev pub tested_behind : Atom → Option (Cmp × List Lexeme) → List Lexeme → Option (Cond × List Lexeme)
+tested_behind atom (Some sign) lexemes = compared_of sign.0 atom sign.1
+tested_behind atom None lexemes = said_with atom lexemes
+
 -- a predicate
 unfoldable pub plain_of : List Lexeme → Option (Cond × List Lexeme)
 plain_of lexemes = do
   found ← atom_of lexemes
-  said ← test_of found.1
-  Some (cond_with found.0 said.0, said.1)
+  tested_behind found.0 (compare_of found.1) found.1
 
 -- one condition, or more with AND between
 unfoldable pub and_of : (List Lexeme → Option (Cond × List Lexeme)) → List Lexeme → Option (Cond × List Lexeme)
@@ -275,6 +288,12 @@ abbrev pub denied_of : (List Lexeme → Option (Cond × List Lexeme)) → List L
 denied_of neg lexemes = do
   inner ← neg lexemes
   Some (cond.Not inner.0, inner.1)
+
+-- NOT, and a condition behind it
+unfoldable pub not_of : (List Lexeme → Option (Cond × List Lexeme)) → List Lexeme → Option (Cond × List Lexeme)
+not_of neg lexemes = do
+  rest ← after (Word (codes "not")) lexemes
+  denied_of neg rest
 
 -- a predicate, a NOT or brackets, with so many of those about one another at most
 unfoldable pub neg_of : ℕ → List Lexeme → Option (Cond × List Lexeme)

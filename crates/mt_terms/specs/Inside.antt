@@ -52,7 +52,6 @@ IsTermInside t = IsExprInside t.expr
 
 -- the literals of what is said of an atom
 abbrev pub test_literals : Test → List Literal
-test_literals (test.Compare op right) = atom_literals right
 test_literals (test.Member negated list) = flat_map atom_literals list
 test_literals (test.Between negated low high) = atom_literals low ++ atom_literals high
 test_literals (test.Like negated pattern) = atom_literals pattern

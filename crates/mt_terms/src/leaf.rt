@@ -1,6 +1,6 @@
 ghost use Rattle.std.specs.Prelude.{◌≡◌};
 ghost use Rattle.mt_reader.specs.Taken.{TakesInside};
-ghost use Rattle.mt_terms.specs.Descent.{atom_of, reserved_atom_of, column_atom_of, literal_atom_of};
+ghost use Rattle.mt_terms.specs.Descent.{atom_of, begins_reserved_atom, reserved_atom_of, column_atom_of, literal_atom_of};
 ghost use Rattle.mt_terms.specs.Inside.{IsAtomInside};
 
 use crate::function::aggregate;
@@ -10,21 +10,32 @@ use mt_tree::Atom;
 use std::alloc::Global;
 
 /// Takes an atom; `None` is for a number outside 64 bits, here and below.
-#[tactic(auto, unfolding(crate::specs::Descent::atom_of))]
 pub(crate) fn atom(alloc: Global, reader: &mut Reader<'_>) -> Result<Option<Atom>, ReadFault>
     ensures { TakesInside IsAtomInside result reader.new (atom_of reader.old) }
 {
-    if reader.begins_with_name() {
-        return column_atom(alloc, reader);
+    if !reader.begins_with_word() {
+        return literal_atom(alloc, reader);
     }
-    if reader.begins_with_word() {
+    if begins_reserved_atom(reader) {
         return reserved_atom(alloc, reader);
     }
-    literal_atom(alloc, reader)
+    column_atom(alloc, reader)
+}
+
+/// Whether one of the reserved words comes first that begin an atom. The reading of a name asks for the others.
+fn begins_reserved_atom(reader: &Reader<'_>) -> bool
+    ensures { result ≡ begins_reserved_atom reader.now }
+{
+    reader.is_at(b"null")
+        || reader.is_at(b"count")
+        || reader.is_at(b"sum")
+        || reader.is_at(b"min")
+        || reader.is_at(b"max")
 }
 
 /// Takes a column.
 #[tactic(auto, unfolding(crate::specs::Descent::column_atom_of))]
+#[inline(never)]
 fn column_atom(alloc: Global, reader: &mut Reader<'_>) -> Result<Option<Atom>, ReadFault>
     ensures { TakesInside IsAtomInside result reader.new (column_atom_of reader.old) }
 {
@@ -34,6 +45,7 @@ fn column_atom(alloc: Global, reader: &mut Reader<'_>) -> Result<Option<Atom>, R
 
 /// Takes NULL or an aggregate.
 #[tactic(auto, unfolding(crate::specs::Descent::reserved_atom_of))]
+#[inline(never)]
 fn reserved_atom(alloc: Global, reader: &mut Reader<'_>) -> Result<Option<Atom>, ReadFault>
     ensures { TakesInside IsAtomInside result reader.new (reserved_atom_of reader.old) }
 {
@@ -46,6 +58,7 @@ fn reserved_atom(alloc: Global, reader: &mut Reader<'_>) -> Result<Option<Atom>,
 
 /// Takes a literal.
 #[tactic(auto, unfolding(crate::specs::Descent::literal_atom_of))]
+#[inline(never)]
 fn literal_atom(alloc: Global, reader: &mut Reader<'_>) -> Result<Option<Atom>, ReadFault>
     ensures { TakesInside IsAtomInside result reader.new (literal_atom_of reader.old) }
 {

@@ -9,6 +9,7 @@ mod function;
 mod laws;
 mod leaf;
 mod logic;
+mod members;
 mod name;
 mod predicate;
 mod read;

@@ -1,13 +1,16 @@
-ghost use Rattle.std.specs.Prelude.{◌≡◌, Option, option_map, IfOk};
-ghost use Rattle.mt_reader.specs.Taken.{TakesInside};
-ghost use Rattle.mt_terms.specs.Descent.{and_of, or_of, neg_of, cond_of};
+ghost use Rattle.std.specs.Prelude.{◌≡◌, List, true, is_some, option_map, codes, IfOk};
+ghost use Rattle.mt_lexer.specs.Tokens.{Lexeme, Word};
+ghost use Rattle.mt_reader.specs.Descent.{after, bracketed_of};
+ghost use Rattle.mt_reader.specs.Taken.{Took, TakesInside};
+ghost use Rattle.mt_terms.specs.Descent.{and_of, or_of, not_of, neg_of, cond_of};
 ghost use Rattle.mt_terms.specs.Inside.{IsCondInside};
 
+use crate::members::push;
 use crate::predicate::predicate;
 use crate::sum::DEPTH;
 use mt_lexer::Symbol;
 use mt_list::List;
-use mt_reader::{ReadFault, Reader, pushed};
+use mt_reader::{ReadFault, Reader};
 use mt_tree::Cond;
 use sqlite_items::{Boxed, Items};
 use std::alloc::{AllocError, Global};
@@ -33,9 +36,25 @@ fn disjunction(
     if !reader.is_at(b"or") {
         return Ok(first);
     }
-    let mut members = pushed(Some(List::new(alloc)), first)?;
+    or_behind(alloc, reader, depth, first)
+}
+
+/// Takes the conditions behind the first one, with OR before each, where OR comes next.
+#[cycle(condition)]
+fn or_behind(
+    alloc: Global,
+    reader: &mut Reader<'_>,
+    depth: usize,
+    first: Option<Cond>,
+) -> Result<Option<Cond>, ReadFault>
+    requires { is_some (after (Word (codes "or")) reader.old) ≡ true }
+    ensures { (lexemes : List Lexeme) → Took IsCondInside first reader.old (and_of (neg_of depth) lexemes) → TakesInside IsCondInside result reader.new (or_of (neg_of depth) lexemes) }
+{
+    let mut members = Some(List::new(alloc));
+    push(&mut members, first)?;
     while reader.takes_word(b"or") {
-        members = pushed(members, conjunction(alloc, reader, depth)?)?;
+        let next = conjunction(alloc, reader, depth)?;
+        push(&mut members, next)?;
     }
     Ok(any_of(members))
 }
@@ -53,9 +72,25 @@ fn conjunction(
     if !reader.is_at(b"and") {
         return Ok(first);
     }
-    let mut members = pushed(Some(List::new(alloc)), first)?;
+    and_behind(alloc, reader, depth, first)
+}
+
+/// Takes the conditions behind the first one, with AND before each, where AND comes next.
+#[cycle(condition)]
+fn and_behind(
+    alloc: Global,
+    reader: &mut Reader<'_>,
+    depth: usize,
+    first: Option<Cond>,
+) -> Result<Option<Cond>, ReadFault>
+    requires { is_some (after (Word (codes "and")) reader.old) ≡ true }
+    ensures { (lexemes : List Lexeme) → Took IsCondInside first reader.old (neg_of depth lexemes) → TakesInside IsCondInside result reader.new (and_of (neg_of depth) lexemes) }
+{
+    let mut members = Some(List::new(alloc));
+    push(&mut members, first)?;
     while reader.takes_word(b"and") {
-        members = pushed(members, negation(alloc, reader, depth)?)?;
+        let next = negation(alloc, reader, depth)?;
+        push(&mut members, next)?;
     }
     Ok(all_of(members))
 }
@@ -68,14 +103,38 @@ fn negation(alloc: Global, reader: &mut Reader<'_>, depth: usize) -> Result<Opti
     if depth == 0 {
         return predicate(alloc, reader);
     }
-    if reader.takes_word(b"not") {
-        let inner = negation(alloc, reader, depth - 1)?;
-        return Ok(negated(alloc, inner)?);
+    if reader.is_at(b"not") {
+        return denial(alloc, reader, depth - 1);
     }
-    if !reader.takes_symbol(Symbol::Open) {
-        return predicate(alloc, reader);
+    if reader.is_at_symbol(Symbol::Open) {
+        return condition_in_brackets(alloc, reader, depth - 1);
     }
-    let inner = disjunction(alloc, reader, depth - 1)?;
+    predicate(alloc, reader)
+}
+
+/// Takes NOT, and a condition behind it.
+#[cycle(condition)]
+#[tactic(auto, unfolding(crate::specs::Descent::not_of), using(crate::proofs::Inside::keeps_not))]
+fn denial(alloc: Global, reader: &mut Reader<'_>, depth: usize) -> Result<Option<Cond>, ReadFault>
+    ensures { TakesInside IsCondInside result reader.new (not_of (neg_of depth) reader.old) }
+{
+    reader.word(b"not")?;
+    let inner = negation(alloc, reader, depth)?;
+    Ok(negated(alloc, inner)?)
+}
+
+/// Takes a condition in brackets.
+#[cycle(condition)]
+#[tactic(auto, unfolding(mt_reader::specs::Descent::bracketed_of))]
+fn condition_in_brackets(
+    alloc: Global,
+    reader: &mut Reader<'_>,
+    depth: usize,
+) -> Result<Option<Cond>, ReadFault>
+    ensures { TakesInside IsCondInside result reader.new (bracketed_of (or_of (neg_of depth)) reader.old) }
+{
+    reader.symbol(Symbol::Open)?;
+    let inner = disjunction(alloc, reader, depth)?;
     reader.symbol(Symbol::Close)?;
     Ok(inner)
 }

@@ -1,12 +1,14 @@
-ghost use Rattle.std.specs.Prelude.{◌≡◌, Option};
-ghost use Rattle.mt_reader.specs.Taken.{TakesInside};
-ghost use Rattle.mt_terms.specs.Descent.{plain_of, both, cond_with};
-ghost use Rattle.mt_terms.specs.Inside.{IsCondInside};
+ghost use Rattle.std.specs.Prelude.{◌≡◌};
+ghost use Rattle.mt_tree.specs.declared.expression.Atom.{Atom};
+ghost use Rattle.mt_reader.specs.Taken.{Keeps, TakesInside};
+ghost use Rattle.mt_terms.specs.Descent.{plain_of, compared_of, said_with, both, cond_with};
+ghost use Rattle.mt_terms.specs.Inside.{IsAtomInside, IsCondInside};
 
 use crate::leaf::atom;
-use crate::test::{Test, rest_of_predicate};
+use crate::test::{Test, comparison, said};
 use mt_reader::{ReadFault, Reader};
 use mt_tree::{Atom, Cond};
+use mt_value::Cmp;
 use std::alloc::Global;
 
 /// Takes a predicate: an atom, and what is said of it.
@@ -15,12 +17,50 @@ pub(crate) fn predicate(alloc: Global, reader: &mut Reader<'_>) -> Result<Option
     ensures { TakesInside IsCondInside result reader.new (plain_of reader.old) }
 {
     let first = atom(alloc, reader)?;
-    let test = rest_of_predicate(alloc, reader)?;
-    Ok(tested(first, test))
+    if let Some(op) = comparison(reader) {
+        return compared(alloc, reader, op, first);
+    }
+    tested(alloc, reader, first)
+}
+
+/// Takes the second atom of a comparison.
+fn compared(
+    alloc: Global,
+    reader: &mut Reader<'_>,
+    op: Cmp,
+    left: Option<Atom>,
+) -> Result<Option<Cond>, ReadFault>
+    ensures { (a : Atom) → Keeps IsAtomInside left a → TakesInside IsCondInside result reader.new (compared_of op a reader.old) }
+{
+    let right = atom(alloc, reader)?;
+    Ok(compares(op, left, right))
+}
+
+/// Takes what else is said of an atom.
+fn tested(
+    alloc: Global,
+    reader: &mut Reader<'_>,
+    atom: Option<Atom>,
+) -> Result<Option<Cond>, ReadFault>
+    ensures { (a : Atom) → Keeps IsAtomInside atom a → TakesInside IsCondInside result reader.new (said_with a reader.old) }
+{
+    let test = said(alloc, reader)?;
+    Ok(says(atom, test))
+}
+
+/// The predicate that compares two atoms.
+fn compares(op: Cmp, left: Option<Atom>, right: Option<Atom>) -> Option<Cond>
+    ensures { result ≡ both (Cond.Compare op) left right }
+{
+    Some(Cond::Compare {
+        op,
+        left: left?,
+        right: right?,
+    })
 }
 
 /// The predicate that says this of an atom.
-fn tested(atom: Option<Atom>, test: Option<Test>) -> Option<Cond>
+fn says(atom: Option<Atom>, test: Option<Test>) -> Option<Cond>
     ensures { result ≡ both cond_with atom test }
 {
     Some(tested_by(atom?, test?))
@@ -30,11 +70,6 @@ fn tested_by(atom: Atom, test: Test) -> Cond
     ensures { result ≡ cond_with atom test }
 {
     match test {
-        Test::Compare(op, right) => Cond::Compare {
-            op,
-            left: atom,
-            right,
-        },
         Test::Member(negated, list) => Cond::Member {
             negated,
             atom,

@@ -1,13 +1,15 @@
-ghost use Rattle.std.specs.Prelude.{◌≡◌, Option, Some, None, is_some, option_map};
-ghost use Rattle.mt_lexer.specs.Tokens.{Lexeme};
-ghost use Rattle.mt_reader.specs.Taken.{TakesAny, TakesInside};
+ghost use Rattle.std.specs.Prelude.{◌≡◌, List, true, is_some, option_map};
+ghost use Rattle.mt_lexer.specs.Tokens.{Lexeme, Sign};
+ghost use Rattle.mt_reader.specs.Descent.{after, bracketed_of};
+ghost use Rattle.mt_reader.specs.Taken.{Took, TakesAny, TakesInside};
 ghost use Rattle.mt_terms.specs.Descent.{alone_of, term_of, minus_of, sign_of, sum_of, factor_of, expr_of};
 ghost use Rattle.mt_terms.specs.Inside.{IsExprInside};
 
 use crate::leaf::atom;
+use crate::members::push;
 use mt_lexer::Symbol;
 use mt_list::List;
-use mt_reader::{ReadFault, Reader, pushed};
+use mt_reader::{ReadFault, Reader};
 use mt_tree::{Atom, Expr, Term};
 use sqlite_items::Items;
 use std::alloc::Global;
@@ -25,7 +27,6 @@ pub(crate) fn expression(alloc: Global, reader: &mut Reader<'_>) -> Result<Optio
 
 /// Takes terms with signs between, with so many brackets about one another at most.
 #[cycle(expression)]
-#[tactic(auto, unfolding(crate::specs::Descent::sum_of))]
 fn sum(alloc: Global, reader: &mut Reader<'_>, depth: usize) -> Result<Option<Expr>, ReadFault>
     ensures { TakesInside IsExprInside result reader.new (sum_of (factor_of depth) reader.old) }
 {
@@ -33,10 +34,25 @@ fn sum(alloc: Global, reader: &mut Reader<'_>, depth: usize) -> Result<Option<Ex
     if !is_at_sign(reader) {
         return Ok(first);
     }
-    let mut terms = pushed(Some(List::new(alloc)), term(false, first))?;
+    sum_behind(alloc, reader, depth, first)
+}
+
+/// Takes the terms behind the first one, with a sign before each, where a sign comes next.
+#[cycle(expression)]
+fn sum_behind(
+    alloc: Global,
+    reader: &mut Reader<'_>,
+    depth: usize,
+    first: Option<Expr>,
+) -> Result<Option<Expr>, ReadFault>
+    requires { is_some (sign_of reader.old) ≡ true }
+    ensures { (lexemes : List Lexeme) → Took IsExprInside first reader.old (term_of (factor_of depth) lexemes) → TakesInside IsExprInside result reader.new (sum_of (factor_of depth) lexemes) }
+{
+    let mut terms = Some(List::new(alloc));
+    push(&mut terms, term(false, first))?;
     while let Some(minus) = sign(reader) {
         let next = product(alloc, reader, depth)?;
-        terms = pushed(terms, term(minus, next))?;
+        push(&mut terms, term(minus, next))?;
     }
     Ok(summed(terms))
 }
@@ -50,9 +66,25 @@ fn product(alloc: Global, reader: &mut Reader<'_>, depth: usize) -> Result<Optio
     if !reader.is_at_symbol(Symbol::Star) {
         return Ok(first);
     }
-    let mut factors = pushed(Some(List::new(alloc)), first)?;
+    product_behind(alloc, reader, depth, first)
+}
+
+/// Takes the factors behind the first one, with a star before each, where a star comes next.
+#[cycle(expression)]
+fn product_behind(
+    alloc: Global,
+    reader: &mut Reader<'_>,
+    depth: usize,
+    first: Option<Expr>,
+) -> Result<Option<Expr>, ReadFault>
+    requires { is_some (after (Sign Symbol.Star) reader.old) ≡ true }
+    ensures { (lexemes : List Lexeme) → Took IsExprInside first reader.old (factor_of depth lexemes) → TakesInside IsExprInside result reader.new (term_of (factor_of depth) lexemes) }
+{
+    let mut factors = Some(List::new(alloc));
+    push(&mut factors, first)?;
     while reader.takes_symbol(Symbol::Star) {
-        factors = pushed(factors, factor(alloc, reader, depth)?)?;
+        let next = factor(alloc, reader, depth)?;
+        push(&mut factors, next)?;
     }
     Ok(multiplied(factors))
 }
@@ -65,10 +97,24 @@ fn factor(alloc: Global, reader: &mut Reader<'_>, depth: usize) -> Result<Option
     if depth == 0 {
         return alone(alloc, reader);
     }
-    if !reader.takes_symbol(Symbol::Open) {
+    if !reader.is_at_symbol(Symbol::Open) {
         return alone(alloc, reader);
     }
-    let inner = sum(alloc, reader, depth - 1)?;
+    sum_in_brackets(alloc, reader, depth - 1)
+}
+
+/// Takes a sum in brackets.
+#[cycle(expression)]
+#[tactic(auto, unfolding(mt_reader::specs::Descent::bracketed_of))]
+fn sum_in_brackets(
+    alloc: Global,
+    reader: &mut Reader<'_>,
+    depth: usize,
+) -> Result<Option<Expr>, ReadFault>
+    ensures { TakesInside IsExprInside result reader.new (bracketed_of (sum_of (factor_of depth)) reader.old) }
+{
+    reader.symbol(Symbol::Open)?;
+    let inner = sum(alloc, reader, depth)?;
     reader.symbol(Symbol::Close)?;
     Ok(inner)
 }

@@ -1,6 +1,6 @@
 ghost use Rattle.std.specs.Prelude.{◌≡◌, Option, option_map};
 ghost use Rattle.mt_reader.specs.Taken.{TakesAny, TakesInside};
-ghost use Rattle.mt_terms.specs.Descent.{cmp_of, compare_of, test_of, said_of, tested_of, worded_of, member_of, between_of, like_of, both};
+ghost use Rattle.mt_terms.specs.Descent.{cmp_of, compare_of, said_of, tested_of, worded_of, member_of, between_of, like_of, both};
 ghost use Rattle.mt_terms.specs.Inside.{IsTestInside};
 
 use crate::form::AtomForm;
@@ -13,35 +13,19 @@ use mt_value::Cmp;
 use sqlite_items::Items;
 use std::alloc::Global;
 
-/// What a predicate says of its first atom.
+/// What a predicate says of its first atom, behind a word.
 #[derive(Drop)]
 pub(crate) enum Test {
-    Compare(Cmp, Atom),
     Member(bool, Items<Atom>),
     Between(bool, Atom, Atom),
     Like(bool, Atom),
     IsNull(bool),
 }
 
-/// Takes what stands behind the first atom of a predicate; `None` is for a number outside 64 bits,
-/// here and below.
-#[tactic(auto, using(crate::proofs::Inside::keeps_compare), unfolding(crate::specs::Descent::test_of))]
-pub(crate) fn rest_of_predicate(
-    alloc: Global,
-    reader: &mut Reader<'_>,
-) -> Result<Option<Test>, ReadFault>
-    ensures { TakesInside IsTestInside result reader.new (test_of reader.old) }
-{
-    if let Some(op) = comparison(reader) {
-        let right = atom(alloc, reader)?;
-        return Ok(compare(op, right));
-    }
-    said(alloc, reader)
-}
-
-/// Takes what begins with a word: IS, IN, BETWEEN or LIKE, and NOT before the last three.
+/// Takes what begins with a word: IS, IN, BETWEEN or LIKE, with NOT before the last three or without; `None`
+/// is for a number outside 64 bits, here and below.
 #[tactic(auto, unfolding(crate::specs::Descent::said_of))]
-fn said(alloc: Global, reader: &mut Reader<'_>) -> Result<Option<Test>, ReadFault>
+pub(crate) fn said(alloc: Global, reader: &mut Reader<'_>) -> Result<Option<Test>, ReadFault>
     ensures { TakesInside IsTestInside result reader.new (said_of reader.old) }
 {
     if reader.takes_word(b"is") {
@@ -56,7 +40,7 @@ fn said(alloc: Global, reader: &mut Reader<'_>) -> Result<Option<Test>, ReadFaul
 
 /// Takes a sign that compares, if there is one.
 #[tactic(auto, unfolding(crate::specs::Descent::compare_of))]
-fn comparison(reader: &mut Reader<'_>) -> Option<Cmp>
+pub(crate) fn comparison(reader: &mut Reader<'_>) -> Option<Cmp>
     ensures { TakesAny result reader.old reader.new (compare_of reader.old) }
 {
     let op = cmp_of(reader.first_symbol()?)?;
@@ -134,12 +118,6 @@ fn like(alloc: Global, reader: &mut Reader<'_>, negated: bool) -> Result<Option<
 {
     let pattern = atom(alloc, reader)?;
     Ok(matched(negated, pattern))
-}
-
-fn compare(op: Cmp, right: Option<Atom>) -> Option<Test>
-    ensures { result ≡ option_map (Test.Compare op) right }
-{
-    Some(Test::Compare(op, right?))
 }
 
 fn listed(negated: bool, list: Option<List<Atom>>) -> Option<Test>

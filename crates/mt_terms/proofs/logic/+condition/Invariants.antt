@@ -1,8 +1,9 @@
 -- Each NOT and each bracket takes one of the depth, and each iteration a lexeme.
-use Rattle.std.proofs.Common.{◌+◌, ◌*◌, length}
+use Rattle.std.proofs.Common.{◌+◌, ◌*◌, List, length}
 use Rattle.std.specs.Prelude.{codes}
-use Rattle.mt_lexer.specs.Tokens.{Word}
+use Rattle.mt_lexer.specs.Tokens.{Lexeme, Word}
 use Rattle.mt_tree.specs.declared.expression.Cond.TheVariants.{And, Or}
+use Rattle.mt_reader.specs.Taken.{Took}
 use Rattle.mt_reader.proofs.Joining.{JoinedSoFar}
 use Rattle.mt_terms.specs.Descent.{and_of, neg_of}
 use Rattle.mt_terms.specs.Inside.{IsCondInside}
@@ -10,22 +11,36 @@ use Rattle.mt_terms.proofs.Conditions.{neg_shrinks, and_shrinks}
 use Rattle.mt_terms.proofs.logic.+condition.Given as goal
 
 abbrev pub decreases-negation : goal.decreases-negation
-decreases-negation l = 3 * l.depth
+decreases-negation l = 6 * l.depth
+
+abbrev pub decreases-denial : goal.decreases-denial
+decreases-denial l = 6 * l.depth + 1
+
+abbrev pub decreases-and_behind : goal.decreases-and_behind
+decreases-and_behind l = 6 * l.depth + 1
 
 abbrev pub decreases-conjunction : goal.decreases-conjunction
-decreases-conjunction l = 3 * l.depth + 1
+decreases-conjunction l = 6 * l.depth + 2
+
+abbrev pub decreases-or_behind : goal.decreases-or_behind
+decreases-or_behind l = 6 * l.depth + 3
 
 abbrev pub decreases-disjunction : goal.decreases-disjunction
-decreases-disjunction l = 3 * l.depth + 2
+decreases-disjunction l = 6 * l.depth + 4
 
-abbrev pub invariant-conjunction-loop-alloc : goal.invariant-conjunction-loop-alloc
-invariant-conjunction-loop-alloc l = JoinedSoFar (neg_of l.depth) (neg_shrinks l.depth) (Word (codes "and")) And IsCondInside l.fn.reader l.reader l.members
+abbrev pub decreases-condition_in_brackets : goal.decreases-condition_in_brackets
+decreases-condition_in_brackets l = 6 * l.depth + 5
 
-abbrev pub decreases-conjunction-loop-alloc : goal.decreases-conjunction-loop-alloc
-decreases-conjunction-loop-alloc l = length l.reader
+abbrev pub invariant-and_behind-loop-alloc : goal.invariant-and_behind-loop-alloc
+invariant-and_behind-loop-alloc l =
+    (lexemes : List Lexeme) → Took IsCondInside l.fn.first l.fn.reader (neg_of l.depth lexemes) → JoinedSoFar (neg_of l.depth) (neg_shrinks l.depth) (Word (codes "and")) And IsCondInside lexemes l.reader l.members
 
-abbrev pub invariant-disjunction-loop-alloc : goal.invariant-disjunction-loop-alloc
-invariant-disjunction-loop-alloc l = JoinedSoFar (and_of (neg_of l.depth)) (and_shrinks l.depth) (Word (codes "or")) Or IsCondInside l.fn.reader l.reader l.members
+abbrev pub decreases-and_behind-loop-alloc : goal.decreases-and_behind-loop-alloc
+decreases-and_behind-loop-alloc l = length l.reader
 
-abbrev pub decreases-disjunction-loop-alloc : goal.decreases-disjunction-loop-alloc
-decreases-disjunction-loop-alloc l = length l.reader
+abbrev pub invariant-or_behind-loop-alloc : goal.invariant-or_behind-loop-alloc
+invariant-or_behind-loop-alloc l =
+    (lexemes : List Lexeme) → Took IsCondInside l.fn.first l.fn.reader (and_of (neg_of l.depth) lexemes) → JoinedSoFar (and_of (neg_of l.depth)) (and_shrinks l.depth) (Word (codes "or")) Or IsCondInside lexemes l.reader l.members
+
+abbrev pub decreases-or_behind-loop-alloc : goal.decreases-or_behind-loop-alloc
+decreases-or_behind-loop-alloc l = length l.reader

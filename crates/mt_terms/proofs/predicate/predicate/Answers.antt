@@ -1,16 +1,13 @@
--- Both parts are read, and kept.
-use Rattle.std.proofs.Common.{refl}
-use Rattle.mt_terms.specs.Descent.{plain_of, cond_with}
-use Rattle.mt_terms.proofs.Inside.{keeps_with}
+-- A comparison, or a word behind the first atom.
+use Rattle.mt_terms.proofs.Conditions.{plain_of-compared, plain_of-said}
 use Rattle.mt_terms.proofs.predicate.predicate.Goals as goal
 
+pub returns-in-Some : goal.returns-in-Some
+returns-in-Some c =
+    let first = c.in_ok-first.ensures in
+    rw (plain_of-compared c.args.reader.now c.atom.new.reader first.tree first.reads c.comparison.new.reader c.in-Some.op c.in-Some.ensures) (c.compared.ensures first.tree first.keeps)
+
 pub returns : goal.returns
-unfolding plain_of
 returns c =
     let first = c.in_ok-first.ensures in
-    let test = c.in_ok-test.ensures in
-    record {
-      tree = cond_with first.tree test.tree;
-      reads = rw (first.reads, test.reads) refl;
-      keeps = rw c.tested.ensures (keeps_with c.in_ok-first.first first.tree c.in_ok-test.test test.tree first.keeps test.keeps);
-    }
+    rw (plain_of-said c.args.reader.now c.atom.new.reader first.tree first.reads c.in_default.ensures.0, ← c.in_default.ensures.1) (c.tested.ensures first.tree first.keeps)

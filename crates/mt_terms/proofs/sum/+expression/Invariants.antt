@@ -1,8 +1,9 @@
 -- Each bracket takes one of the depth, and each iteration a lexeme.
-use Rattle.std.proofs.Common.{◌+◌, ◌*◌, length}
-use Rattle.mt_lexer.specs.Tokens.{Sign}
+use Rattle.std.proofs.Common.{◌+◌, ◌*◌, List, length}
+use Rattle.mt_lexer.specs.Tokens.{Lexeme, Sign}
 use Rattle.mt_lexer.specs.declared.token.Symbol.TheVariants.{Star}
 use Rattle.mt_tree.specs.declared.expression.Expr.TheVariants.{Product}
+use Rattle.mt_reader.specs.Taken.{Took}
 use Rattle.mt_reader.proofs.Joining.{JoinedSoFar}
 use Rattle.mt_terms.specs.Descent.{term_of, terms_of, factor_of}
 use Rattle.mt_terms.specs.Inside.{IsExprInside, IsTermInside}
@@ -11,22 +12,33 @@ use Rattle.mt_terms.proofs.Tails.{TermsSoFar}
 use Rattle.mt_terms.proofs.sum.+expression.Given as goal
 
 abbrev pub decreases-factor : goal.decreases-factor
-decreases-factor l = 3 * l.depth
+decreases-factor l = 6 * l.depth
+
+abbrev pub decreases-product_behind : goal.decreases-product_behind
+decreases-product_behind l = 6 * l.depth + 1
 
 abbrev pub decreases-product : goal.decreases-product
-decreases-product l = 3 * l.depth + 1
+decreases-product l = 6 * l.depth + 2
+
+abbrev pub decreases-sum_behind : goal.decreases-sum_behind
+decreases-sum_behind l = 6 * l.depth + 3
 
 abbrev pub decreases-sum : goal.decreases-sum
-decreases-sum l = 3 * l.depth + 2
+decreases-sum l = 6 * l.depth + 4
 
-abbrev pub invariant-product-loop-alloc : goal.invariant-product-loop-alloc
-invariant-product-loop-alloc l = JoinedSoFar (factor_of l.depth) (factor_shrinks l.depth) (Sign Star) Product IsExprInside l.fn.reader l.reader l.factors
+abbrev pub decreases-sum_in_brackets : goal.decreases-sum_in_brackets
+decreases-sum_in_brackets l = 6 * l.depth + 5
 
-abbrev pub decreases-product-loop-alloc : goal.decreases-product-loop-alloc
-decreases-product-loop-alloc l = length l.reader
+abbrev pub invariant-product_behind-loop-alloc : goal.invariant-product_behind-loop-alloc
+invariant-product_behind-loop-alloc l =
+    (lexemes : List Lexeme) → Took IsExprInside l.fn.first l.fn.reader (factor_of l.depth lexemes) → JoinedSoFar (factor_of l.depth) (factor_shrinks l.depth) (Sign Star) Product IsExprInside lexemes l.reader l.factors
 
-abbrev pub invariant-sum-loop-minus : goal.invariant-sum-loop-minus
-invariant-sum-loop-minus l = TermsSoFar (term_of (factor_of l.depth)) IsTermInside (terms_of (term_of (factor_of l.depth)) l.fn.reader) l.reader l.terms
+abbrev pub decreases-product_behind-loop-alloc : goal.decreases-product_behind-loop-alloc
+decreases-product_behind-loop-alloc l = length l.reader
 
-abbrev pub decreases-sum-loop-minus : goal.decreases-sum-loop-minus
-decreases-sum-loop-minus l = length l.reader
+abbrev pub invariant-sum_behind-loop-minus : goal.invariant-sum_behind-loop-minus
+invariant-sum_behind-loop-minus l =
+    (lexemes : List Lexeme) → Took IsExprInside l.fn.first l.fn.reader (term_of (factor_of l.depth) lexemes) → TermsSoFar (term_of (factor_of l.depth)) IsTermInside (terms_of (term_of (factor_of l.depth)) lexemes) l.reader l.terms
+
+abbrev pub decreases-sum_behind-loop-minus : goal.decreases-sum_behind-loop-minus
+decreases-sum_behind-loop-minus l = length l.reader
