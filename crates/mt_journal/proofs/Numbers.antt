@@ -6,7 +6,7 @@ use Rattle.std.proofs.lemmas.List.{append-nil}
 use Rattle.mt_journal.specs.Layout.{Area, StandAt, number_at}
 
 -- the number in an area is that in the bytes that stand there
-number_from : (n : ℕ) (area : Area) (at i : ℕ) (bytes : List ℕ) → StandAt area at bytes → i + n ≤ length bytes → number_at n area (at + i) ≡ little_from i n bytes
+pub number_from : (n : ℕ) (area : Area) (at i : ℕ) (bytes : List ℕ) → StandAt area at bytes → i + n ≤ length bytes → number_at n area (at + i) ≡ little_from i n bytes
 number_from zero area at i bytes stand fits = refl
 number_from (suc n) area at i bytes stand fits =
     let byte = stand i (omega arith) in

@@ -3,9 +3,9 @@ use Rattle.std.proofs.Common.{◌≡◌, ℕ, ◌+◌, ◌-◌, ◌^◌, ◌<◌
 use Rattle.std.specs.Prelude.{All, flat_map, sum_by, slice_get, option_map, Some}
 use Rattle.std.proofs.lemmas.List.Sums.{sum_by-cons}
 use Rattle.std.proofs.lemmas.Option.{slice_get-map, slice_get-get_or}
-use Rattle.std.proofs.lemmas.List.{append-nil, take_at, drop_at, length-map}
-use Rattle.std.proofs.lemmas.List.Elements.{All-nil, All-cons, All-head, All-tail, All-push, All-get_or}
-use Rattle.std.proofs.Math.Seq.{drop-append_seam, drop-append-add}
+use Rattle.std.proofs.lemmas.List.{append-nil, take_at, drop_at, length-map, map-append}
+use Rattle.std.proofs.lemmas.List.Elements.{All-nil, All-cons, All-head, All-tail, All-push, All-get_or, All-take}
+use Rattle.std.proofs.Math.Seq.{drop-append_seam, drop-append-add, take-append_seam}
 use Rattle.byteorder.specs.Endian.{little_bytes, little_number}
 use Rattle.byteorder.specs.Numbers.{little_number-reads_back, length-bytes_low_first}
 use Rattle.mt_journal.specs.Layout.{Range, range_size}
@@ -168,6 +168,66 @@ push_spelled payload starts new_payload new_starts range spelled fits room new_i
     let starts_are : new_starts ≡ starts_from 4 (ranges ++ range ∷ []) =
     new_are ∙ ap (λ (n : ℕ). starts ++ n ∷ []) last ∙ ap (λ (l : List ℕ). l ++ (4 + sum_by range_size ranges) ∷ []) spelled.starts_are ∙ sym (starts_push 4 ranges range) in
     is_spelled new_payload new_starts (ranges ++ range ∷ []) payload_is starts_are (All-push Fits ranges range spelled.fit fits) (omega (arith, room, length-append ranges (range ∷ [])))
+
+-- lists that are one with a last member are one without it
+same_front : (xs ys : List ℕ) (x y : ℕ) → xs ++ x ∷ [] ≡ ys ++ y ∷ [] → (xs ≡ ys) × (x ≡ y)
+same_front [] [] x y e = (refl, cc)
+same_front [] (b ∷ ys) x y e = let long = length-append ys (y ∷ []) in let l = ap length e in absurd (omega (arith, long, l))
+same_front (a ∷ xs) [] x y e = let long = length-append xs (x ∷ []) in let l = ap length e in absurd (omega (arith, long, l))
+same_front (a ∷ xs) (b ∷ ys) x y e =
+    let rest = same_front xs ys x y (cc e) in
+    let first : a ≡ b = cc e in
+    (λ i. first i ∷ rest.0 i, rest.1)
+
+-- a payload without its last range
+module _ (payload starts front new_payload : List ℕ) (start : ℕ) (spelled : IsSpelled payload starts) (last : starts ≡ front ++ start ∷ []) where
+  kept : List Range
+  kept = ranges_of payload front
+
+  range : Range
+  range = range_from payload start
+
+  ranges_are : ranges_of payload starts ≡ kept ++ range ∷ []
+  unfolding kept range
+  ranges_are = ap (ranges_of payload) last ∙ map-append (range_from payload) front (start ∷ [])
+
+  places : (front ≡ starts_from 4 kept) × (start ≡ 4 + sum_by range_size kept)
+  places = same_front front (starts_from 4 kept) start (4 + sum_by range_size kept) (sym last ∙ spelled.starts_are ∙ ap (starts_from 4) ranges_are ∙ starts_push 4 kept range)
+
+  payload_of : payload ≡ little_bytes 4 (length (kept ++ range ∷ [])) ++ (flat_map spelling_of_range kept ++ spelling_of_range range)
+  payload_of = spelled.payload_is ∙ ap spelling_of ranges_are ∙ ap (λ (l : List ℕ). little_bytes 4 (length (kept ++ range ∷ [])) ++ l) (spellings_push kept range)
+
+  -- it starts behind the count, and within the payload
+  pub start_bounds : (4 ≤ start) × (start ≤ length payload)
+  start_bounds =
+      let place = places.1 in
+      let size = length-bytes_low_first 0 4 (length (kept ++ range ∷ [])) in
+      let long = length-spellings kept in
+      let whole = ap length payload_of in
+      (omega (arith, place), omega (arith, place, size, long, whole, length-append (little_bytes 4 (length (kept ++ range ∷ []))) (flat_map spelling_of_range kept ++ spelling_of_range range), length-append (flat_map spelling_of_range kept) (spelling_of_range range)))
+
+  front_of : drop 4 (take start payload) ≡ flat_map spelling_of_range kept
+  front_of =
+      let head = little_bytes 4 (length (kept ++ range ∷ [])) in
+      let size = length-bytes_low_first 0 4 (length (kept ++ range ∷ [])) in
+      let long = length-spellings kept in
+      let place = places.1 in
+      let whole : length (head ++ flat_map spelling_of_range kept) ≡ start = omega (arith, size, long, place, length-append head (flat_map spelling_of_range kept)) in
+      ap (λ (p : List ℕ). drop 4 (take start p)) (payload_of ∙ sym (append_assoc head (flat_map spelling_of_range kept) (spelling_of_range range)))
+      ∙ ap (drop 4) (take_at (head ++ flat_map spelling_of_range kept) (spelling_of_range range) start whole)
+      ∙ drop_at head (flat_map spelling_of_range kept) 4 size
+
+  fit_front : All Fits kept
+  fit_front = subst (All Fits) (take-append_seam kept (range ∷ [])) (All-take Fits (length kept) (kept ++ range ∷ []) (subst (All Fits) ranges_are spelled.fit))
+
+  pub pop_spelled : new_payload ≡ little_bytes 4 (length front) ++ drop 4 (take start payload) → IsSpelled new_payload front × (ranges_of payload starts ≡ ranges_of new_payload front ++ range_from payload start ∷ [])
+  unfolding kept range
+  pop_spelled new_is =
+      let count : length front ≡ length kept = sym (length-map front (range_from payload)) in
+      let payload_is : new_payload ≡ spelling_of kept = new_is ∙ ap (λ (n : ℕ). little_bytes 4 n ++ drop 4 (take start payload)) count ∙ ap (λ (l : List ℕ). little_bytes 4 (length kept) ++ l) front_of in
+      let few : length kept < 2 ^ 32 = omega (arith, spelled.few, ap length ranges_are, length-append kept (range ∷ [])) in
+      let back = is_spelled new_payload front kept payload_is places.0 fit_front few in
+      (back.0, ranges_are ∙ ap (λ (rs : List Range). rs ++ range ∷ []) (sym back.1))
 
 -- the range at an index, as it is read from its start
 module _ (payload starts : List ℕ) (ranges : List Range) (i : ℕ) (bytes : List ℕ) (start : ℕ) (view : ranges_of payload starts ≡ ranges) (same : bytes ≡ payload)

@@ -62,6 +62,20 @@ impl Body {
         Ok(())
     }
 
+    /// Takes the last range away. It takes no memory.
+    pub fn pop(&mut self)
+        requires { 1 ≤ length self.old }
+        ensures { (range : Range) × (self.old ≡ self.new ++ range ∷ []) }
+    {
+        match self.starts.pop() {
+            Some(start) => {
+                self.payload.truncate(start);
+                set_count(&mut self.payload, self.starts.len() as u32);
+            }
+            None => unreachable!(),
+        }
+    }
+
     /// The number of ranges.
     pub fn len(&self) -> usize
         ensures { result ≡ length self.now }

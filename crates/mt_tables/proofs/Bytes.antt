@@ -48,7 +48,7 @@ zero_bytes area at zero free = refl
 zero_bytes area at (suc n) free = rw (free at (omega arith) (omega arith), zero_bytes area (at + 1) n (λ k low high. free k (omega arith) (omega arith))) refl
 
 -- the bytes that were written stand
-standing : (area : Area) (bytes : List ℕ) (at : ℕ) → ((k : ℕ) → k < length bytes → area (at + k) ≡ slice_index bytes k) → bytes_at area at (length bytes) ≡ bytes
+pub standing : (area : Area) (bytes : List ℕ) (at : ℕ) → ((k : ℕ) → k < length bytes → area (at + k) ≡ slice_index bytes k) → bytes_at area at (length bytes) ≡ bytes
 standing area [] at stand = refl
 standing area (b ∷ bytes) at stand =
     let head : area at ≡ b = ap area (omega arith) ∙ stand 0 (omega arith) in
