@@ -11,13 +11,13 @@ use Rattle.mt_tables.specs.Tables.{overwritten}
 abbrev pub put_at : ℕ → List ℕ → Area → Area
 put_at at bytes area = with_range (record { position = at; bytes = bytes }) area
 
-before_range : (at : ℕ) (bytes : List ℕ) (area : Area) (k : ℕ) → k < at → put_at at bytes area k ≡ area k
+pub before_range : (at : ℕ) (bytes : List ℕ) (area : Area) (k : ℕ) → k < at → put_at at bytes area k ≡ area k
 before_range at bytes area k below = grind (arith, nat_tests)
 
-behind_range : (at : ℕ) (bytes : List ℕ) (area : Area) (k : ℕ) → at + length bytes ≤ k → put_at at bytes area k ≡ area k
+pub behind_range : (at : ℕ) (bytes : List ℕ) (area : Area) (k : ℕ) → at + length bytes ≤ k → put_at at bytes area k ≡ area k
 behind_range at bytes area k past = grind (arith, nat_tests)
 
-in_range : (at : ℕ) (bytes : List ℕ) (area : Area) (k : ℕ) → k < length bytes → put_at at bytes area (at + k) ≡ slice_index bytes k
+pub in_range : (at : ℕ) (bytes : List ℕ) (area : Area) (k : ℕ) → k < length bytes → put_at at bytes area (at + k) ≡ slice_index bytes k
 in_range at bytes area k within = let e : at + k - at ≡ k = omega arith in grind (arith, nat_tests)
 
 -- n bytes from a lie beside m bytes from b
