@@ -47,6 +47,7 @@ fn a_new_page_is_counted(rt: HostRuntime) -> Result<(), Fail> {
     let alloc = rt.alloc();
     let mut machine = QuietMachine::new(alloc);
     let mut pages = Pages::load(&mut machine)?;
+    assert!(rt; pages.count() == 1);
     let mut body = Body::new(alloc)?;
     pages.plan_new_page(16, 1, &mut body)?;
     assert_eq!(rt; body.len(), 2);

@@ -64,14 +64,14 @@ plus_zero n = omega arith
 zero_plus : (n : ℕ) → 0 + n ≡ n
 zero_plus n = omega arith
 
-bytes_at-append : (area : Area) (at n m : ℕ) → bytes_at area at (n + m) ≡ bytes_at area at n ++ bytes_at area (at + n) m
+pub bytes_at-append : (area : Area) (at n m : ℕ) → bytes_at area at (n + m) ≡ bytes_at area at n ++ bytes_at area (at + n) m
 bytes_at-append area at zero m = rw (plus_zero at, zero_plus m) refl
 bytes_at-append area at (suc n) m =
     let e : suc n + m ≡ suc (n + m) = omega arith in
     let f : at + suc n ≡ at + 1 + n = omega arith in
     rw (e, f, bytes_at-append area (at + 1) n m) refl
 
-drop-bytes_at : (area : Area) (at n m : ℕ) → drop n (bytes_at area at (n + m)) ≡ bytes_at area (at + n) m
+pub drop-bytes_at : (area : Area) (at n m : ℕ) → drop n (bytes_at area at (n + m)) ≡ bytes_at area (at + n) m
 drop-bytes_at area at zero m = rw (plus_zero at, zero_plus m) refl
 drop-bytes_at area at (suc n) m =
     let e : suc n + m ≡ suc (n + m) = omega arith in

@@ -1,6 +1,7 @@
 pub mod Bodies
 pub mod Bytes
 pub mod OneSlot
+pub mod PageSlots
 pub mod Places
 pub mod Plans
 pub mod Sizes
