@@ -124,7 +124,7 @@ abbrev key_in : {K V : Type 0} → K → Option (K × V) → K
 key_in key None = key
 key_in key (Some e) = e.0
 
-module _ {K V : Type 0} {R : K → K → Ordering} (o : IsTotalOrder R) (exact : finite.IsAntisymmetric R) (sizes : SlotSizes) (sound : AreSlotSizes sizes) (read : TableSlot → Option (K × V)) (table_of : K → ℕ) (count : ℕ) where
+module _ {K V : Type 0} {R : K → K → Ordering} (o : IsTotalOrder R) (exact : finite.IsAntisymmetric R) (sizes : SlotSizes) (sound : AreSlotSizes sizes) (read : TableSlot → Option (K × V)) (table_of : K → ℕ) (is_walked : ℕ → Bool) (count : ℕ) where
   -- where the slot of a key stands
   abbrev pub place_of : K → ℕ → SlotPlace
   place_of key position = record { table = table_of key; position = position }
@@ -152,9 +152,9 @@ module _ {K V : Type 0} {R : K → K → Ordering} (o : IsTotalOrder R) (exact :
 
   -- REWRITE: the slot of a key that is there
   pub plan_rewritten : (pages : Area) (changes : List (K × Option V)) (ranges : List Range) (index : finite.FinMap R ℕ) (free : ℕ → List ℕ) (k : K) (p : ℕ) (v : V) (bytes : List ℕ)
-      → IsPlan sizes read R table_of count pages changes ranges index free → finite.get index k ≡ Some p → length bytes ≤ sizes.width (table_of k)
+      → IsPlan sizes read R table_of is_walked count pages changes ranges index free → finite.get index k ≡ Some p → length bytes ≤ sizes.width (table_of k)
       → read (slot_after sizes sound count (with_ranges ranges pages) (place_of k p) bytes) ≡ Some (k, v)
-      → IsPlan sizes read R table_of count pages (changes ++ (k, Some v) ∷ []) (ranges ++ range_at p bytes ∷ []) index free
+      → IsPlan sizes read R table_of is_walked count pages (changes ++ (k, Some v) ∷ []) (ranges ++ range_at p bytes ∷ []) index free
   plan_rewritten pages changes ranges index free k p v bytes plan there short says =
       let area = with_ranges ranges pages in
       let place = place_of k p in
@@ -167,9 +167,9 @@ module _ {K V : Type 0} {R : K → K → Ordering} (o : IsTotalOrder R) (exact :
         made = one_more_made sizes sound count read o exact pages ranges changes s.1.number place bytes k (Some v) plan.made at short only says;
         unique = subst (λ x. AreUnique R read (slots_below sizes count x)) (sym new) (step_unique sizes sound count read o area s.1.number place bytes k (Some v) at short only says plan.unique);
         held = λ k2 p2 there2. subst (λ x. (w : V) × Says sizes read count x (place_of k2 p2) (Some (k2, w))) (sym new) (by area s.1.number at here s k2 p2 there2 (plan.held k2 p2 there2) (eq_by_cmp R k2 k) refl);
-        lacked = λ k2 none. ap (λ x. finite.get (tables_below {R = R} sizes count read x) k2) new
+        lacked = λ k2 walked none. ap (λ x. finite.get (tables_below {R = R} sizes count read x) k2) new
             ∙ ap (λ m. finite.get m k2) (step sizes sound count read o exact area s.1.number place bytes k (Some v) at short only says)
-            ∙ finite.get-insert o (tables_below sizes count read area) k v k2 ∙ lacks k2 none (eq_by_cmp R k2 k) refl (plan.lacked k2 none);
+            ∙ finite.get-insert o (tables_below sizes count read area) k v k2 ∙ lacks k2 none (eq_by_cmp R k2 k) refl (plan.lacked k2 walked none);
         are_free = λ t. subst (λ x. AreFree sizes read count x t (free t)) (sym new)
             (still_free sizes sound read count area s.1.number place bytes t (free t) at short (used_apart sizes sound read count area place (k, s.0) t (free t) s.1 (plan.are_free t)) (plan.are_free t));
         are_apart = plan.are_apart;
@@ -219,16 +219,16 @@ module _ {K V : Type 0} {R : K → K → Ordering} (o : IsTotalOrder R) (exact :
 
   -- TAKE: a key that stands nowhere gets the first free position of its table
   pub plan_taken : (pages : Area) (changes : List (K × Option V)) (ranges : List Range) (index : finite.FinMap R ℕ) (free : ℕ → List ℕ) (p : ℕ) (rest : List ℕ) (k : K) (v : V) (bytes : List ℕ)
-      → IsPlan sizes read R table_of count pages changes ranges index free → free (table_of k) ≡ p ∷ rest → finite.get index k ≡ None → length bytes ≤ sizes.width (table_of k)
+      → IsPlan sizes read R table_of is_walked count pages changes ranges index free → free (table_of k) ≡ p ∷ rest → is_walked (table_of k) ≡ true → finite.get index k ≡ None → length bytes ≤ sizes.width (table_of k)
       → read (slot_after sizes sound count (with_ranges ranges pages) (place_of k p) bytes) ≡ Some (k, v)
-      → IsPlan sizes read R table_of count pages (changes ++ (k, Some v) ∷ []) (ranges ++ range_at p bytes ∷ []) (finite.insert index k p) (without_first (table_of k) free)
-  plan_taken pages changes ranges index free p rest k v bytes plan first none short says =
+      → IsPlan sizes read R table_of is_walked count pages (changes ++ (k, Some v) ∷ []) (ranges ++ range_at p bytes ∷ []) (finite.insert index k p) (without_first (table_of k) free)
+  plan_taken pages changes ranges index free p rest k v bytes plan first walked none short says =
       let area = with_ranges ranges pages in
       let place = place_of k p in
       let all : AreFree sizes read count area (table_of k) (p ∷ rest) = subst (AreFree sizes read count area (table_of k)) first (plan.are_free (table_of k)) in
       let s = all.0 in
       let at = at_of sizes sound read count area place None s in
-      let missing : find R k (entries_of read (slots_below sizes count area)) ≡ None = sym (finite.get-from_entries o (entries_of read (slots_below sizes count area)) k) ∙ plan.lacked k none in
+      let missing : find R k (entries_of read (slots_below sizes count area)) ≡ None = sym (finite.get-from_entries o (entries_of read (slots_below sizes count area)) k) ∙ plan.lacked k walked none in
       let only : OnlyAt R read k s.number (slots_below sizes count area) =
       only_free o read k s.number (slots_below sizes count area) (0, []) (among_slots sizes sound read count area s.number place at) (none_says o read k (slots_below sizes count area) missing) (s.says (0, [])) in
       let new : with_ranges (ranges ++ range_at p bytes ∷ []) pages ≡ put_at p bytes area = with_ranges-last ranges (range_at p bytes) pages in
@@ -238,9 +238,9 @@ module _ {K V : Type 0} {R : K → K → Ordering} (o : IsTotalOrder R) (exact :
         unique = subst (λ x. AreUnique R read (slots_below sizes count x)) (sym new) (step_unique sizes sound count read o area s.number place bytes k (Some v) at short only says plan.unique);
         held = λ k2 p2 there2. subst (λ x. (w : V) × Says sizes read count x (place_of k2 p2) (Some (k2, w))) (sym new)
             (by area s at here k2 p2 (eq_by_cmp R k2 k) refl (sym (finite.get-insert o index k p k2) ∙ there2) (plan.held k2 p2));
-        lacked = λ k2 none2. ap (λ x. finite.get (tables_below {R = R} sizes count read x) k2) new
+        lacked = λ k2 walked none2. ap (λ x. finite.get (tables_below {R = R} sizes count read x) k2) new
             ∙ ap (λ m. finite.get m k2) (step sizes sound count read o exact area s.number place bytes k (Some v) at short only says)
-            ∙ finite.get-insert o (tables_below sizes count read area) k v k2 ∙ lacks k2 (eq_by_cmp R k2 k) (sym (finite.get-insert o index k p k2) ∙ none2) (plan.lacked k2);
+            ∙ finite.get-insert o (tables_below sizes count read area) k v k2 ∙ lacks k2 (eq_by_cmp R k2 k) (sym (finite.get-insert o index k p k2) ∙ none2) (plan.lacked k2 walked);
         are_free = λ t. subst (λ x. AreFree sizes read count x t (without_first (table_of k) free t)) (sym new)
             (free_then area s.number p rest free k bytes at short first (subst AreApart first (plan.are_apart (table_of k))) s all.1 plan.are_free t);
         are_apart = apart_then p rest free (table_of k) first plan.are_apart;
@@ -263,9 +263,9 @@ module _ {K V : Type 0} {R : K → K → Ordering} (o : IsTotalOrder R) (exact :
 
   -- REMOVE: a key loses its place, which is not among the free ones before the group is committed
   pub plan_removed : (pages : Area) (changes : List (K × Option V)) (ranges : List Range) (index : finite.FinMap R ℕ) (free : ℕ → List ℕ) (k : K) (p : ℕ) (bytes : List ℕ)
-      → IsPlan sizes read R table_of count pages changes ranges index free → finite.get index k ≡ Some p → length bytes ≤ sizes.width (table_of k)
+      → IsPlan sizes read R table_of is_walked count pages changes ranges index free → finite.get index k ≡ Some p → length bytes ≤ sizes.width (table_of k)
       → read (slot_after sizes sound count (with_ranges ranges pages) (place_of k p) bytes) ≡ None
-      → IsPlan sizes read R table_of count pages (changes ++ (k, None) ∷ []) (ranges ++ range_at p bytes ∷ []) (finite.remove index k) free
+      → IsPlan sizes read R table_of is_walked count pages (changes ++ (k, None) ∷ []) (ranges ++ range_at p bytes ∷ []) (finite.remove index k) free
   plan_removed pages changes ranges index free k p bytes plan there short says =
       let area = with_ranges ranges pages in
       let place = place_of k p in
@@ -278,9 +278,9 @@ module _ {K V : Type 0} {R : K → K → Ordering} (o : IsTotalOrder R) (exact :
         unique = subst (λ x. AreUnique R read (slots_below sizes count x)) (sym new) (step_unique sizes sound count read o area s.1.number place bytes k None at short only says plan.unique);
         held = λ k2 p2 there2. subst (λ x. (w : V) × Says sizes read count x (place_of k2 p2) (Some (k2, w))) (sym new)
             (by area s.1.number at s k2 p2 (eq_by_cmp R k2 k) refl (sym (finite.get-remove o index k k2) ∙ there2) (plan.held k2 p2));
-        lacked = λ k2 none. ap (λ x. finite.get (tables_below {R = R} sizes count read x) k2) new
+        lacked = λ k2 walked none. ap (λ x. finite.get (tables_below {R = R} sizes count read x) k2) new
             ∙ ap (λ m. finite.get m k2) (step sizes sound count read o exact area s.1.number place bytes k None at short only says)
-            ∙ finite.get-remove o (tables_below sizes count read area) k k2 ∙ lacks k2 (eq_by_cmp R k2 k) (sym (finite.get-remove o index k k2) ∙ none) (plan.lacked k2);
+            ∙ finite.get-remove o (tables_below sizes count read area) k k2 ∙ lacks k2 (eq_by_cmp R k2 k) (sym (finite.get-remove o index k k2) ∙ none) (plan.lacked k2 walked);
         are_free = λ t. subst (λ x. AreFree sizes read count x t (free t)) (sym new)
             (still_free sizes sound read count area s.1.number place bytes t (free t) at short (used_apart sizes sound read count area place (k, s.0) t (free t) s.1 (plan.are_free t)) (plan.are_free t));
         are_apart = plan.are_apart;
@@ -300,10 +300,10 @@ module _ {K V : Type 0} {R : K → K → Ordering} (o : IsTotalOrder R) (exact :
 
   -- SILENT: a range of the other tables, into a slot that said nothing here and says nothing
   pub plan_silent : (pages : Area) (changes : List (K × Option V)) (ranges : List Range) (index : finite.FinMap R ℕ) (free free2 : ℕ → List ℕ) (place : SlotPlace) (bytes : List ℕ)
-      → IsPlan sizes read R table_of count pages changes ranges index free → Says sizes read count (with_ranges ranges pages) place None → length bytes ≤ sizes.width place.table
+      → IsPlan sizes read R table_of is_walked count pages changes ranges index free → Says sizes read count (with_ranges ranges pages) place None → length bytes ≤ sizes.width place.table
       → read (slot_after sizes sound count (with_ranges ranges pages) place bytes) ≡ None
       → ((t : ℕ) → AreFree sizes read count (with_ranges ranges pages) t (free2 t)) → ((t : ℕ) → AreOthers place.position (free2 t)) → ((t : ℕ) → AreApart (free2 t))
-      → IsPlan sizes read R table_of count pages changes (ranges ++ range_at place.position bytes ∷ []) index free2
+      → IsPlan sizes read R table_of is_walked count pages changes (ranges ++ range_at place.position bytes ∷ []) index free2
   plan_silent pages changes ranges index free free2 place bytes plan s short says all others apart =
       let area = with_ranges ranges pages in
       let at = at_of sizes sound read count area place None s in
@@ -317,7 +317,7 @@ module _ {K V : Type 0} {R : K → K → Ordering} (o : IsTotalOrder R) (exact :
         held = λ k2 p2 there2. subst (λ x. (w : V) × Says sizes read count x (place_of k2 p2) (Some (k2, w))) (sym new)
             (let s2 = plan.held k2 p2 there2 in
             other_held area s.number place bytes k2 p2 at short s2 (λ e. let h = one_says sizes sound read count area (place_of k2 p2) place (Some (k2, s2.0)) None s2.1 s e in cc));
-        lacked = λ k2 none. ap (λ x. finite.get (tables_below {R = R} sizes count read x) k2) new ∙ ap (λ m. finite.get m k2) same ∙ plan.lacked k2 none;
+        lacked = λ k2 walked none. ap (λ x. finite.get (tables_below {R = R} sizes count read x) k2) new ∙ ap (λ m. finite.get m k2) same ∙ plan.lacked k2 walked none;
         are_free = λ t. subst (λ x. AreFree sizes read count x t (free2 t)) (sym new) (still_free sizes sound read count area s.number place bytes t (free2 t) at short (others t) (all t));
         are_apart = apart;
       }
@@ -399,7 +399,7 @@ module _ (sizes : SlotSizes) (sound : AreSlotSizes sizes) where
         let before = lies_before some (record { table = t; position = p }) None free.0 in
         (others_append p positions (page_positions sizes table count) apart.0 (before_run table count p 0 (sizes.count table) (omega arith)), free_and_new some table t positions free.1 apart.1)
 
-module _ {K V : Type 0} (R : K → K → Ordering) (sizes : SlotSizes) (sound : AreSlotSizes sizes) (read : TableSlot → Option (K × V)) (table_of : K → ℕ) (count : ℕ) where
+module _ {K V : Type 0} (R : K → K → Ordering) (sizes : SlotSizes) (sound : AreSlotSizes sizes) (read : TableSlot → Option (K × V)) (table_of : K → ℕ) (is_walked : ℕ → Bool) (count : ℕ) where
   blanks_unique : (slots : List TableSlot) (n : ℕ) (blank : TableSlot) → read blank ≡ None → AreUnique R read slots → AreUnique R read (slots ++ replicate n blank)
   blanks_unique [] zero blank free unique = tt
   blanks_unique [] (suc n) blank free unique = (subst (λ e. NoneSaysIts R read e (replicate n blank)) (sym free) tt, blanks_unique [] n blank free tt)
@@ -419,8 +419,8 @@ module _ {K V : Type 0} (R : K → K → Ordering) (sizes : SlotSizes) (sound : 
 
   -- A NEW PAGE: its positions are free behind those that were
   pub plan_with_page : (pages : Area) (changes : List (K × Option V)) (ranges more : List Range) (index : finite.FinMap R ℕ) (free : ℕ → List ℕ) (table : ℕ)
-      → IsPlan sizes read R table_of count pages changes ranges index free → IsNewPage count table (with_ranges ranges pages) (with_ranges (ranges ++ more) pages) → read (blank_slot sizes table) ≡ None
-      → IsPlan sizes read R table_of (count + 1) pages changes (ranges ++ more) index (with_page sizes table count free)
+      → IsPlan sizes read R table_of is_walked count pages changes ranges index free → IsNewPage count table (with_ranges ranges pages) (with_ranges (ranges ++ more) pages) → read (blank_slot sizes table) ≡ None
+      → IsPlan sizes read R table_of is_walked (count + 1) pages changes (ranges ++ more) index (with_page sizes table count free)
   plan_with_page pages changes ranges more index free table plan is blank =
       let old = with_ranges ranges pages in
       let new = with_ranges (ranges ++ more) pages in
@@ -433,7 +433,7 @@ module _ {K V : Type 0} (R : K → K → Ordering) (sizes : SlotSizes) (sound : 
         made = same ∙ plan.made;
         unique = subst (AreUnique R read) (sym slots) (blanks_unique (slots_below sizes count old) (sizes.count table) (blank_slot sizes table) blank plan.unique);
         held = λ k p there. let s = plan.held k p there in (s.0, front_says sizes sound read count old new run blanks places slots (record { table = table_of k; position = p }) (Some (k, s.0)) s.1);
-        lacked = λ k none. ap (λ m. finite.get m k) same ∙ plan.lacked k none;
+        lacked = λ k walked none. ap (λ m. finite.get m k) same ∙ plan.lacked k walked none;
         are_free = λ t. free_by old new is blank run blanks places slots t (plan.are_free t) (nat_eq t table) refl;
         are_apart = λ t. apart_by old is.some t (plan.are_free t) (plan.are_apart t) (nat_eq t table);
       }
@@ -457,8 +457,8 @@ module _ {K V : Type 0} (R : K → K → Ordering) (sizes : SlotSizes) (sound : 
 
   -- CONTROL: a range in page 0 changes nothing of the plan
   pub plan_with_control : (pages : Area) (changes : List (K × Option V)) (ranges : List Range) (index : finite.FinMap R ℕ) (free : ℕ → List ℕ) (at : ℕ) (bytes : List ℕ)
-      → IsPlan sizes read R table_of count pages changes ranges index free → at + length bytes ≤ 4096
-      → IsPlan sizes read R table_of count pages changes (ranges ++ record { position = at; bytes = bytes } ∷ []) index free
+      → IsPlan sizes read R table_of is_walked count pages changes ranges index free → at + length bytes ≤ 4096
+      → IsPlan sizes read R table_of is_walked count pages changes (ranges ++ record { position = at; bytes = bytes } ∷ []) index free
   plan_with_control pages changes ranges index free at bytes plan low =
       let old = with_ranges ranges pages in
       let new : with_ranges (ranges ++ record { position = at; bytes = bytes } ∷ []) pages ≡ put_at at bytes old = with_ranges-last ranges (record { position = at; bytes = bytes }) pages in
@@ -470,7 +470,7 @@ module _ {K V : Type 0} (R : K → K → Ordering) (sizes : SlotSizes) (sound : 
         unique = subst (λ x. AreUnique R read (slots_below sizes count x)) (sym new) (subst (AreUnique R read) (sym slots) plan.unique);
         held = λ k p there. let s = plan.held k p there in
             (s.0, subst (λ x. Says sizes read count x (record { table = table_of k; position = p }) (Some (k, s.0))) (sym new) (says_still old (put_at at bytes old) places slots (record { table = table_of k; position = p }) (Some (k, s.0)) s.1));
-        lacked = λ k none. ap (λ x. finite.get (tables_below {R = R} sizes count read x) k) new ∙ ap (λ m. finite.get m k) same ∙ plan.lacked k none;
+        lacked = λ k walked none. ap (λ x. finite.get (tables_below {R = R} sizes count read x) k) new ∙ ap (λ m. finite.get m k) same ∙ plan.lacked k walked none;
         are_free = λ t. subst (λ x. AreFree sizes read count x t (free t)) (sym new) (free_still old (put_at at bytes old) places slots t (free t) (plan.are_free t));
         are_apart = plan.are_apart;
       }

@@ -1,5 +1,5 @@
 -- What is known of the pages as they will be, while a group is chosen range by range.
-use Rattle.std.specs.Prelude.{◌≡◌, ◌≢◌, ℕ, ◌<◌, nat_eq, if◌then◌else◌, List, [], ◌∷◌, ◌++◌, length, map, drop, get_or, Option, None, Some}
+use Rattle.std.specs.Prelude.{◌≡◌, ◌≢◌, ℕ, ◌<◌, nat_eq, Bool, true, if◌then◌else◌, List, [], ◌∷◌, ◌++◌, length, map, drop, get_or, Option, None, Some}
 use Rattle.std.specs.declared.cmp.Ordering.{Ordering}
 use Rattle.std.specs.FinMap as finite
 use Rattle.mt_journal.specs.Layout.{Area, Range}
@@ -44,12 +44,13 @@ abbrev pub with_page : SlotSizes → ℕ → ℕ → (ℕ → List ℕ) → ℕ 
 with_page sizes table page free t = if nat_eq t table then free t ++ page_positions sizes table page else free t
 
 -- THE PLAN of these changes: ranges that make them, where each key stands once they are written, and
--- positions of each table that are free then. A key that stands nowhere is none of a slot's.
-pub record IsPlan {K V : Type 0} (sizes : SlotSizes) (read : TableSlot → Option (K × V)) (R : K → K → Ordering) (table_of : K → ℕ) (count : ℕ) (pages : Area) (changes : List (K × Option V)) (ranges : List Range) (index : finite.FinMap R ℕ) (free : ℕ → List ℕ) : Type 0 where
+-- positions of each table that are free then. Of the tables that were walked a key that stands nowhere
+-- is none of a slot's.
+pub record IsPlan {K V : Type 0} (sizes : SlotSizes) (read : TableSlot → Option (K × V)) (R : K → K → Ordering) (table_of : K → ℕ) (is_walked : ℕ → Bool) (count : ℕ) (pages : Area) (changes : List (K × Option V)) (ranges : List Range) (index : finite.FinMap R ℕ) (free : ℕ → List ℕ) : Type 0 where
   pub made : Makes sizes read R changes ranges count pages
   pub unique : AreUnique R read (slots_below sizes count (with_ranges ranges pages))
   pub held : (key : K) (position : ℕ) → finite.get index key ≡ Some position
       → (value : V) × Says sizes read count (with_ranges ranges pages) (record { table = table_of key; position = position }) (Some (key, value))
-  pub lacked : (key : K) → finite.get index key ≡ None → finite.get (tables_below {R = R} sizes count read (with_ranges ranges pages)) key ≡ None
+  pub lacked : (key : K) → is_walked (table_of key) ≡ true → finite.get index key ≡ None → finite.get (tables_below {R = R} sizes count read (with_ranges ranges pages)) key ≡ None
   pub are_free : (table : ℕ) → AreFree sizes read count (with_ranges ranges pages) table (free table)
   pub are_apart : (table : ℕ) → AreApart (free table)
