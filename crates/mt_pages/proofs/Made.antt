@@ -43,7 +43,7 @@ counted_then count area some few =
 length-page_bytes : (table : ℕ) → length (page_bytes table) ≡ 4096
 length-page_bytes table = omega (arith, length-append (little_bytes 4 table) (replicate 4092 0), length-bytes_low_first 0 4 table, length-replicate {A = ℕ} 4092 0)
 
--- THE PAGE is put behind the others
+-- the page is put behind the others
 pub new_page : (old : Area) (table count : ℕ) → table < 2 ^ 32 → 1 ≤ count → IsNewPage count table old (with_ranges (page_ranges table count) old)
 new_page old table count small some =
     let page = put_at (4096 * count) (page_bytes table) old in

@@ -114,7 +114,7 @@ module _ {S K V : Type 0} {R : K → K → Ordering} (o : IsTotalOrder R) (read 
           inner true t is = cc
           inner false t is = (t, rest is)
 
-  -- THE STEP: the i-th slot is replaced by one that says the same key or nothing
+  -- the i-th slot is replaced by one that says the same key or nothing
   pub found_after : (k q : K) (slot : S) (i : ℕ) (slots : List S) → OnlyAt R read k i slots → HasKey R k (read slot)
       → find R q (entries_of read (set slots i slot)) ≡ cond (eq_by_cmp R q k) (value_in (read slot)) (find R q (entries_of read slots))
   found_after k q slot i [] only has = absurd only

@@ -31,7 +31,7 @@ run_slots sizes area table page i (suc n) rest =
     sym (ap (λ k. drop width (bytes_at area at k)) size ∙ drop-bytes_at area at width more ∙ ap (λ k. bytes_at area k more) next) in
     λ j. (table, first j) ∷ (run_slots sizes area table page (i + 1) n rest ∙ ap (λ bytes. map (λ b. (table, b)) (slots_in width n bytes)) behind) j
 
--- THE SLOTS of a page are the parts of its bytes behind the head
+-- the slots of a page are the parts of its bytes behind the head
 pub page_slots : (sizes : SlotSizes) (area : Area) (page : ℕ) → sizes.width (table_at area page) * sizes.count (table_at area page) + 8 ≤ 4096
     → map (slot_at sizes area) (page_places sizes area page) ≡ map (λ bytes. (table_at area page, bytes)) (slots_in (sizes.width (table_at area page)) (sizes.count (table_at area page)) (drop 8 (bytes_at area (4096 * page) 4096)))
 page_slots sizes area page within =
@@ -57,7 +57,7 @@ with_passing-append : {K V : Type 0} {R : K → K → Ordering} (test : K → Bo
 with_passing-append test [] ys found = refl
 with_passing-append test (x ∷ xs) ys found = with_passing-append test xs ys (cond (test x.0) (finite.insert found x.0 x.1) found)
 
--- A WALK over slots in two parts
+-- a walk over slots in two parts
 pub walk_then : {S K V : Type 0} {R : K → K → Ordering} (read : S → Option (K × V)) (test : K → Bool) (xs ys : List S) (found : finite.FinMap R V)
     → with_passing test (entries_of read (xs ++ ys)) found ≡ with_passing test (entries_of read ys) (with_passing test (entries_of read xs) found)
 walk_then read test xs ys found = ap (λ es. with_passing test es found) (entries_of-append read xs ys) ∙ with_passing-append test (entries_of read xs) (entries_of read ys) found

@@ -150,7 +150,7 @@ module _ {K V : Type 0} {R : K → K → Ordering} (o : IsTotalOrder R) (exact :
       → (s : (w : V) × Says sizes read count area (place_of k2 p2) (Some (k2, w))) → p2 ≢ place.position → (w : V) × Says sizes read count (put_at place.position bytes area) (place_of k2 p2) (Some (k2, w))
   other_held area i place bytes k2 p2 at short s apart = (s.0, others_say sizes sound read count area i place (place_of k2 p2) bytes (Some (k2, s.0)) at short s.1 apart)
 
-  -- REWRITE: the slot of a key that is there
+  -- the slot of a key that is there is rewritten
   pub plan_rewritten : (pages : Area) (changes : List (K × Option V)) (ranges : List Range) (index : finite.FinMap R ℕ) (free : ℕ → List ℕ) (k : K) (p : ℕ) (v : V) (bytes : List ℕ)
       → IsPlan sizes read R table_of is_walked count pages changes ranges index free → finite.get index k ≡ Some p → length bytes ≤ sizes.width (table_of k)
       → read (slot_after sizes sound count (with_ranges ranges pages) (place_of k p) bytes) ≡ Some (k, v)
@@ -217,7 +217,7 @@ module _ {K V : Type 0} {R : K → K → Ordering} (o : IsTotalOrder R) (exact :
           subst AreApart (sym list) (subst AreApart (ap free same ∙ first) (all t)).1
       by false e = all t
 
-  -- TAKE: a key that stands nowhere gets the first free position of its table
+  -- a key that stands nowhere gets the first free position of its table
   pub plan_taken : (pages : Area) (changes : List (K × Option V)) (ranges : List Range) (index : finite.FinMap R ℕ) (free : ℕ → List ℕ) (p : ℕ) (rest : List ℕ) (k : K) (v : V) (bytes : List ℕ)
       → IsPlan sizes read R table_of is_walked count pages changes ranges index free → free (table_of k) ≡ p ∷ rest → is_walked (table_of k) ≡ true → finite.get index k ≡ None → length bytes ≤ sizes.width (table_of k)
       → read (slot_after sizes sound count (with_ranges ranges pages) (place_of k p) bytes) ≡ Some (k, v)
@@ -261,7 +261,7 @@ module _ {K V : Type 0} {R : K → K → Ordering} (o : IsTotalOrder R) (exact :
       lacks k2 true is rest = cc
       lacks k2 false is rest = rest is
 
-  -- REMOVE: a key loses its place, which is not among the free ones before the group is committed
+  -- a key loses its place, which is not among the free ones before the group is committed
   pub plan_removed : (pages : Area) (changes : List (K × Option V)) (ranges : List Range) (index : finite.FinMap R ℕ) (free : ℕ → List ℕ) (k : K) (p : ℕ) (bytes : List ℕ)
       → IsPlan sizes read R table_of is_walked count pages changes ranges index free → finite.get index k ≡ Some p → length bytes ≤ sizes.width (table_of k)
       → read (slot_after sizes sound count (with_ranges ranges pages) (place_of k p) bytes) ≡ None
@@ -298,7 +298,7 @@ module _ {K V : Type 0} {R : K → K → Ordering} (o : IsTotalOrder R) (exact :
       lacks k2 true is rest = refl
       lacks k2 false is rest = rest is
 
-  -- SILENT: a range of the other tables, into a slot that said nothing here and says nothing
+  -- a range of the other tables, into a slot that said nothing here and says nothing, changes nothing
   pub plan_silent : (pages : Area) (changes : List (K × Option V)) (ranges : List Range) (index : finite.FinMap R ℕ) (free free2 : ℕ → List ℕ) (place : SlotPlace) (bytes : List ℕ)
       → IsPlan sizes read R table_of is_walked count pages changes ranges index free → Says sizes read count (with_ranges ranges pages) place None → length bytes ≤ sizes.width place.table
       → read (slot_after sizes sound count (with_ranges ranges pages) place bytes) ≡ None
@@ -417,7 +417,7 @@ module _ {K V : Type 0} (R : K → K → Ordering) (sizes : SlotSizes) (sound : 
       by None none = tt
       by (Some e) none = none_more e.0 slots none
 
-  -- A NEW PAGE: its positions are free behind those that were
+  -- the positions of a new page are free behind those that were
   pub plan_with_page : (pages : Area) (changes : List (K × Option V)) (ranges more : List Range) (index : finite.FinMap R ℕ) (free : ℕ → List ℕ) (table : ℕ)
       → IsPlan sizes read R table_of is_walked count pages changes ranges index free → IsNewPage count table (with_ranges ranges pages) (with_ranges (ranges ++ more) pages) → read (blank_slot sizes table) ≡ None
       → IsPlan sizes read R table_of is_walked (count + 1) pages changes (ranges ++ more) index (with_page sizes table count free)
@@ -455,7 +455,7 @@ module _ {K V : Type 0} (R : K → K → Ordering) (sizes : SlotSizes) (sound : 
       apart_by old some t all apart true = free_and_new sizes sound read count old some table t (free t) all apart
       apart_by old some t all apart false = apart
 
-  -- CONTROL: a range in page 0 changes nothing of the plan
+  -- a range in page 0 changes nothing of the plan
   pub plan_with_control : (pages : Area) (changes : List (K × Option V)) (ranges : List Range) (index : finite.FinMap R ℕ) (free : ℕ → List ℕ) (at : ℕ) (bytes : List ℕ)
       → IsPlan sizes read R table_of is_walked count pages changes ranges index free → at + length bytes ≤ 4096
       → IsPlan sizes read R table_of is_walked count pages changes (ranges ++ record { position = at; bytes = bytes } ∷ []) index free

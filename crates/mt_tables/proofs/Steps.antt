@@ -91,7 +91,7 @@ module _ (sizes : SlotSizes) (sound : AreSlotSizes sizes) (count : ℕ) where
       has_key k None = tt
       has_key k (Some v) = (eq_by_cmp_equiv o).refl k
 
-      -- THE STEP: a write into a slot that says the key, or nothing, where no other says the key
+      -- a write into a slot that says the key, or nothing, where no other says the key, gives the key its value
       pub step : finite.IsAntisymmetric R → (area : Area) (i : ℕ) (place : SlotPlace) (bytes : List ℕ) (k : K) (value : Option V) → StandsAt area i place → length bytes ≤ sizes.width place.table
           → OnlyAt R read k i (slots_below sizes count area) → read (slot_after area place bytes) ≡ entry_with k value
           → tables_below {R = R} sizes count read (put_at place.position bytes area) ≡ with_value k value (tables_below sizes count read area)
@@ -110,7 +110,7 @@ module _ (sizes : SlotSizes) (sound : AreSlotSizes sizes) (count : ℕ) where
           subst (AreUnique R read) (sym (written area i place bytes at short))
           (unique_after o read k (slot_after area place bytes) i (slots_below sizes count area) only (subst (HasKey R k) (sym says) (has_key k value)) unique)
 
-      -- THE GROUP: ranges that make changes make one more with one range more that is a step
+      -- ranges that make changes make one more with one range more that is a step
       pub one_more_made : finite.IsAntisymmetric R → (pages : Area) (ranges : List Range) (changes : List (K × Option V)) (i : ℕ) (place : SlotPlace) (bytes : List ℕ) (k : K) (value : Option V)
           → Makes sizes read R changes ranges count pages → StandsAt (with_ranges ranges pages) i place → length bytes ≤ sizes.width place.table
           → OnlyAt R read k i (slots_below sizes count (with_ranges ranges pages)) → read (slot_after (with_ranges ranges pages) place bytes) ≡ entry_with k value

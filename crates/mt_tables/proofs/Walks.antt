@@ -50,7 +50,7 @@ module _ {S K V : Type 0} {R : K → K → Ordering} (o : IsTotalOrder R) (exact
       by (Some e) none rest = rest (cond (test e.0) (finite.insert found e.0 e.1) found)
           ∙ one_more q e (entries_of read slots) found (λ tied. find-tied o q e.0 tied (entries_of read slots) ∙ none_found o read e.0 slots none)
 
-  -- THE SCAN: a walk that begins with nothing finds the entries of the map whose keys pass
+  -- a walk that begins with nothing finds the entries of the map whose keys pass
   pub walk_finds : (slots : List S) → AreUnique R read slots → with_passing test (entries_of read slots) finite.empty ≡ finite.retain_keys (finite.from_entries {R = R} (entries_of read slots)) test
   walk_finds slots unique = finite.same_map o exact _ _ (λ q.
       found_at slots finite.empty q unique ∙ ap (or_else (cond (test q) (find R q (entries_of read slots)) None)) (finite.get-empty R q)

@@ -47,7 +47,7 @@ module _ (sizes : SlotSizes) where
   places_stand count area page at bytes inside = λ i.
       flat_map (λ m. map (place_in sizes (heads_stand area page at bytes inside m i) m) (numbers_from 0 (sizes.count (heads_stand area page at bytes inside m i)))) (numbers_from 1 (count - 1))
 
-  -- THE WRITE into the i-th slot
+  -- a write into the i-th slot replaces it alone
   pub slot_written : AreSlotSizes sizes → (count : ℕ) (area : Area) (page i : ℕ) (d : SlotPlace) (bytes : List ℕ) → i < length (places_below sizes count area)
       → length bytes ≤ sizes.width (get_or (places_below sizes count area) i d).table → IsInPage sizes page (get_or (places_below sizes count area) i d).position (length bytes)
       → slots_below sizes count (put_at (get_or (places_below sizes count area) i d).position bytes area)
@@ -89,7 +89,7 @@ module _ (sizes : SlotSizes) where
       let f = from.0 in let u = upto.0 in
       rw (zero_bytes area (slot_position (sizes.width table) page i) (sizes.width table) (λ k above below. free k (omega arith) (omega arith)), blank_slots area low high table page (i + 1) n from.1 upto.1 free) refl
 
-  -- A NEW PAGE adds its places behind all others
+  -- a new page adds its places behind all others
   pub places_added : (count : ℕ) (old new : Area) (table : ℕ) → IsNewPage count table old new → places_below sizes (count + 1) new ≡ places_below sizes count old ++ run_of sizes table count 0 (sizes.count table)
   places_added count old new table is =
       let one : 1 ≤ count = is.some in

@@ -43,7 +43,7 @@ page_positions sizes table page = map (slot_position (sizes.width table) page) (
 abbrev pub with_page : SlotSizes → ℕ → ℕ → (ℕ → List ℕ) → ℕ → List ℕ
 with_page sizes table page free t = if nat_eq t table then free t ++ page_positions sizes table page else free t
 
--- THE PLAN of these changes: ranges that make them, where each key stands once they are written, and
+-- The plan of these changes: ranges that make them, where each key stands once they are written, and
 -- positions of each table that are free then. Of the tables that were walked a key that stands nowhere
 -- is none of a slot's.
 pub record IsPlan {K V : Type 0} (sizes : SlotSizes) (read : TableSlot → Option (K × V)) (R : K → K → Ordering) (table_of : K → ℕ) (is_walked : ℕ → Bool) (count : ℕ) (pages : Area) (changes : List (K × Option V)) (ranges : List Range) (index : finite.FinMap R ℕ) (free : ℕ → List ℕ) : Type 0 where
