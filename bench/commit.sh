@@ -23,7 +23,9 @@ report() {
 
 report journal "$program" "$count"
 if command -v strace >/dev/null; then
-    strace -f -c -o traced "$program" "$count"
+    # in a folder of its own, since a run in this one would first replay the log of the run before
+    mkdir fresh
+    (cd fresh && strace -f -c -o ../traced "$program" "$count")
     awk -v n="$count" '$4 / n >= 0.01 && $NF != "syscall" { printf "%-10s %6.2f %s a commit\n", "journal", $4 / n, $NF }' traced
 else
     echo "no strace"
