@@ -1,3 +1,4 @@
+pub mod Begins
 pub mod Bodies
 pub mod Bytes
 pub mod OneSlot

@@ -1,12 +1,12 @@
 -- What is known of the pages as they will be, while a group is chosen range by range.
-use Rattle.std.specs.Prelude.{◌≡◌, ◌≢◌, ℕ, ◌<◌, nat_eq, Bool, true, if◌then◌else◌, List, [], ◌∷◌, ◌++◌, length, map, drop, get_or, Option, None, Some}
+use Rattle.std.specs.Prelude.{◌≡◌, ◌≢◌, ◌==◌, ◌&&◌, ℕ, ◌<◌, nat_eq, Bool, true, if◌then◌else◌, slice_index, List, [], ◌∷◌, ◌++◌, length, map, drop, get_or, Option, None, Some}
 use Rattle.std.specs.declared.cmp.Ordering.{Ordering}
 use Rattle.std.specs.FinMap as finite
 use Rattle.mt_journal.specs.Layout.{Area, Range}
 use Rattle.mt_journal.specs.Replay.{with_ranges}
 use Rattle.mt_tables.specs.Commit.{Makes}
 use Rattle.mt_tables.specs.Pages.{SlotPlace, SlotSizes, numbers_from, places_below, slot_position}
-use Rattle.mt_tables.specs.Tables.{TableSlot, slots_below, tables_below}
+use Rattle.mt_tables.specs.Tables.{TableSlot, slot_at, slots_below, tables_below}
 use Rattle.mt_tables.specs.Unique.{AreUnique}
 
 -- a place is that of a slot of the pages below a number, and what the slot there says
@@ -54,3 +54,26 @@ pub record IsPlan {K V : Type 0} (sizes : SlotSizes) (read : TableSlot → Optio
   pub lacked : (key : K) → is_walked (table_of key) ≡ true → finite.get index key ≡ None → finite.get (tables_below {R = R} sizes count read (with_ranges ranges pages)) key ≡ None
   pub are_free : (table : ℕ) → AreFree sizes read count (with_ranges ranges pages) table (free table)
   pub are_apart : (table : ℕ) → AreApart (free table)
+
+-- a slot and where it stands
+abbrev pub PlacedSlot : Type 0
+PlacedSlot = SlotPlace × TableSlot
+
+-- the slots at these places
+abbrev pub placed : SlotSizes → Area → List SlotPlace → List PlacedSlot
+placed sizes area places = map (λ place. (place, slot_at sizes area place)) places
+
+-- the index with the key that a slot says, where it says one
+abbrev pub with_key : {K V : Type 0} {R : K → K → Ordering} → Option (K × V) → ℕ → finite.FinMap R ℕ → finite.FinMap R ℕ
+with_key None position index = index
+with_key (Some e) position index = finite.insert index e.0 position
+
+-- where the keys stand that the slots of walked tables say
+abbrev pub index_of : {K V : Type 0} {R : K → K → Ordering} → (TableSlot → Option (K × V)) → (ℕ → Bool) → List PlacedSlot → finite.FinMap R ℕ → finite.FinMap R ℕ
+index_of read is_walked [] index = index
+index_of read is_walked (slot ∷ slots) index = index_of read is_walked slots (if is_walked slot.0.table then with_key (read slot.1) slot.0.position index else index)
+
+-- the positions of the slots of one table that are marked free, in page order
+abbrev pub free_in : ℕ → List PlacedSlot → List ℕ
+free_in table [] = []
+free_in table (slot ∷ slots) = if nat_eq slot.0.table table && (slice_index slot.1.1 0 == 0) then slot.0.position ∷ free_in table slots else free_in table slots
