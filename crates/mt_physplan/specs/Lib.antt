@@ -1,5 +1,4 @@
 pub mod Content
-pub mod Counts
 pub mod Applied
 pub mod Keys
 pub mod Listed

@@ -7,6 +7,7 @@ ghost use Rattle.mt_physplan.specs.Keys.{cell_of, key_cmp, key_in, slot_in};
 use crate::{Cell, Key, Scan};
 use mt_list::List;
 use mt_rowfile::{SlotRow, SlotRows};
+use mt_value::Row;
 use std::alloc::{AllocError, Global};
 use std::collections::BTreeMap;
 use std::marker::Model;
@@ -88,6 +89,20 @@ fn is_in_scan(scan: &Scan, key: &Key) -> bool
         && key.row < scan.upto
 }
 
+/// The slot with this key, mark and values.
+fn slot(key: &Key, mark: u8, values: Row) -> SlotRow
+    ensures { result ≡ slot_in key.now (record { mark = mark; values = values }) }
+{
+    SlotRow {
+        mark,
+        tenant: key.tenant,
+        base: key.base,
+        chunk: key.chunk,
+        row: key.row,
+        values,
+    }
+}
+
 /// The slots that the scan asks for.
 fn pick(alloc: Global, slots: &BTreeMap<Key, Cell>, scan: &Scan) -> Result<SlotRows, AllocError>
     ensures rows { IfOk result (λ rows. rows ≡ picked (in_scan scan.now) slots.now.entries) }
@@ -96,14 +111,7 @@ fn pick(alloc: Global, slots: &BTreeMap<Key, Cell>, scan: &Scan) -> Result<SlotR
     let mut rows = List::new(alloc);
     for (key, cell) in slots {
         if is_in_scan(scan, key) {
-            rows.push(SlotRow {
-                mark: cell.mark,
-                tenant: key.tenant,
-                base: key.base,
-                chunk: key.chunk,
-                row: key.row,
-                values: cell.values.copy()?,
-            })?;
+            rows.push(slot(key, cell.mark, cell.values.copy()?))?;
         }
     }
     Ok(rows)
@@ -116,14 +124,7 @@ fn unpack(alloc: Global, slots: BTreeMap<Key, Cell>) -> Result<SlotRows, AllocEr
 {
     let mut rows = Vec::with_capacity(alloc, slots.len())?;
     for (key, cell) in slots {
-        rows.push(SlotRow {
-            mark: cell.mark,
-            tenant: key.tenant,
-            base: key.base,
-            chunk: key.chunk,
-            row: key.row,
-            values: cell.values,
-        })?;
+        rows.push(slot(&key, cell.mark, cell.values))?;
     }
     Ok(List::from_vec(rows))
 }

@@ -5,6 +5,7 @@ use Rattle.byteorder.specs.Endian.{little_number, little_bytes}
 use Rattle.mt_rowfile.specs.declared.layout.Head.{Head}
 use Rattle.mt_rowfile.specs.declared.layout.Head.TheVariants.{Catalogue, Conventional, Chunk}
 use Rattle.mt_rowfile.specs.declared.layout.Layout.{Layout}
+use Rattle.mt_rowfile.specs.declared.slot.SlotHead.{SlotHead}
 use Rattle.mt_rowfile.specs.declared.slot.SlotRow.{SlotRow}
 use Rattle.mt_rowfile.specs.Fields.{AreFitting, AreSpelled, fields_bytes, values_of}
 use Rattle.mt_rowfile.specs.Layouts.{head_width, slot_width}
@@ -40,6 +41,10 @@ slot_of layout bytes = record {
   row = row_at layout.head bytes;
   values = values_of layout.kinds (drop (head_width layout.head) bytes);
 }
+
+-- whose a slot is
+abbrev pub head_of : SlotRow → SlotHead
+head_of slot = record { tenant = slot.tenant; base = slot.base; chunk = slot.chunk; row = slot.row }
 
 -- a name in the catalogue: its length, from 1 to 30, and so many bytes of ASCII
 pub record IsNameField (bytes : List ℕ) : Type 0 where

@@ -14,7 +14,9 @@ mod slot;
 pub use laws::slots_are_read_again;
 pub use layout::{FieldKinds, Head, Layout, chunk_layout, slot_width, slots_per_page};
 pub use page::free_slots;
-pub use slot::{CatBody, SlotFault, SlotRow, SlotRows, check_slot, read_slot, write_slot};
+pub use slot::{
+    CatBody, SlotFault, SlotHead, SlotRow, SlotRows, check_slot, read_head, read_slot, write_slot,
+};
 
 #[cfg(test)]
 mod tests;

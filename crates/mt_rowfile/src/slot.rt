@@ -1,7 +1,7 @@
 ghost use Rattle.std.specs.Prelude.{◌≡◌, ◌≢◌, ◌↔◌, ◌≤◌, ◌+◌, ◌∷◌, ◌++◌, IsTrue, IfOk, OnOk, IsErrOf, length, slice_index};
 ghost use Rattle.byteorder.specs.Endian.{little_bytes};
 ghost use Rattle.mt_rowfile.specs.Layouts.{IsLayout, IsOfRows, head_width, slot_width};
-ghost use Rattle.mt_rowfile.specs.Slots.{FitsLayout, IsMark, IsSlot, base_at, chunk_at, IsReadable, middle_bytes, row_at, slot_bytes, slot_of};
+ghost use Rattle.mt_rowfile.specs.Slots.{FitsLayout, IsMark, IsSlot, base_at, chunk_at, IsReadable, head_of, middle_bytes, row_at, slot_bytes, slot_of};
 
 use crate::body::check_body;
 use crate::fields::{check_fields, read_fields, write_fields};
@@ -44,6 +44,16 @@ impl Duplicate for SlotRow {
             values: self.values.copy()?,
         })
     }
+}
+
+/// Whose a slot in use is: the tenant, the base table and the chunk, which are 0 in a conventional
+/// slot, and the Row.
+#[derive(Clone, Copy, Debug, PartialEq, Eq)]
+pub struct SlotHead {
+    pub tenant: u32,
+    pub base: u32,
+    pub chunk: u32,
+    pub row: u64,
 }
 
 /// Slots, in order.
@@ -111,6 +121,22 @@ fn check_rest(layout: &Layout, bytes: &[u8]) -> bool
     }
 }
 
+/// Whose a slot in use is, whatever its mark and its fields hold. It takes no memory.
+pub fn read_head(layout: &Layout, bytes: &[u8]) -> SlotHead
+    requires layout { IsLayout layout.now }
+    requires rows { IsOfRows layout.now.head }
+    requires width { length bytes.now ≡ slot_width layout.now }
+    ensures { result ≡ head_of (slot_of layout.now bytes.now) }
+{
+    prove!(head_width(layout.head) <= bytes.len());
+    SlotHead {
+        tenant: LittleEndian::read_u32(&bytes[1..]),
+        base: base_at(layout.head, bytes),
+        chunk: chunk_at(layout.head, bytes),
+        row: row_at(layout.head, bytes),
+    }
+}
+
 /// What a slot in use says; `Bad` exactly where the bytes are no slot, `Memory` for want of memory.
 pub fn read_slot(alloc: Global, layout: &Layout, bytes: &[u8]) -> Result<SlotRow, SlotFault>
     requires layout { IsLayout layout.now }
@@ -145,12 +171,13 @@ fn read_once(alloc: Global, layout: &Layout, bytes: &[u8]) -> Result<SlotRow, Sl
         layout.kinds.as_slice(),
         &bytes[head_width(layout.head)..],
     )?;
+    let head = read_head(layout, bytes);
     Ok(SlotRow {
         mark: bytes[0],
-        tenant: LittleEndian::read_u32(&bytes[1..]),
-        base: base_at(layout.head, bytes),
-        chunk: chunk_at(layout.head, bytes),
-        row: row_at(layout.head, bytes),
+        tenant: head.tenant,
+        base: head.base,
+        chunk: head.chunk,
+        row: head.row,
         values,
     })
 }

@@ -3,8 +3,8 @@ ghost use Rattle.mt_rowfile.specs.Layouts.{IsLayout, IsOfRows};
 ghost use Rattle.mt_rowfile.specs.Slots.{FitsLayout};
 
 use crate::{
-    Head, Layout, SlotFault, SlotRow, check_slot, chunk_layout, free_slots, read_slot, slot_width,
-    slots_are_read_again, slots_per_page, write_slot,
+    Head, Layout, SlotFault, SlotRow, check_slot, chunk_layout, free_slots, read_head, read_slot,
+    slot_width, slots_are_read_again, slots_per_page, write_slot,
 };
 use mt_codec::FieldKind;
 use mt_list::{Duplicate, List};
@@ -43,6 +43,9 @@ fn write_and_read(
     assert_eq!(rt; bytes.as_slice(), wanted);
     assert!(rt; check_slot(layout, &bytes));
     assert!(rt; bytes[0] != 0);
+    let head = read_head(layout, &bytes);
+    assert_eq!(rt; (head.tenant, head.base), (slot.tenant, slot.base));
+    assert_eq!(rt; (head.chunk, head.row), (slot.chunk, slot.row));
     let read = read_slot(alloc, layout, &bytes)?.copy(alloc)?;
     assert_eq!(rt;
         (read.mark, read.tenant, read.base),

@@ -1,17 +1,13 @@
 -- Where the slots of physical tables stand in the pages. Page 0 counts the pages; each other page has
 -- a head of 8 bytes, of which the first 4 are the number of its table, and the table's slots behind it.
 use Rattle.std.specs.Prelude.{ℕ, zero, suc, ◌+◌, ◌*◌, ◌-◌, ◌≤◌, max, List, [], ◌∷◌, map, flat_map}
+use Rattle.std.specs.List.{range_with_len}
 use Rattle.mt_journal.specs.Layout.{Area, number_at}
 
 -- so many bytes from a position on
 abbrev pub bytes_at : Area → ℕ → ℕ → List ℕ
 bytes_at area at zero = []
 bytes_at area at (suc n) = area at ∷ bytes_at area (at + 1) n
-
--- so many numbers, from a first one on
-abbrev pub numbers_from : ℕ → ℕ → List ℕ
-numbers_from first zero = []
-numbers_from first (suc n) = first ∷ numbers_from (first + 1) n
 
 -- the table that a page belongs to
 abbrev pub table_at : Area → ℕ → ℕ
@@ -47,8 +43,8 @@ place_in sizes table page number = record { table = table; position = slot_posit
 
 -- the places of the slots of a page
 abbrev pub page_places : SlotSizes → Area → ℕ → List SlotPlace
-page_places sizes area page = map (place_in sizes (table_at area page) page) (numbers_from 0 (sizes.count (table_at area page)))
+page_places sizes area page = map (place_in sizes (table_at area page) page) (range_with_len 0 (sizes.count (table_at area page)))
 
 -- the places of the slots of all pages below a number, in page order
 abbrev pub places_below : SlotSizes → ℕ → Area → List SlotPlace
-places_below sizes count area = flat_map (page_places sizes area) (numbers_from 1 (count - 1))
+places_below sizes count area = flat_map (page_places sizes area) (range_with_len 1 (count - 1))

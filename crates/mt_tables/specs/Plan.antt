@@ -1,11 +1,13 @@
 -- What is known of the pages as they will be, while a group is chosen range by range.
-use Rattle.std.specs.Prelude.{◌≡◌, ◌≢◌, ◌==◌, ◌&&◌, ℕ, ◌<◌, nat_eq, Bool, true, if◌then◌else◌, slice_index, List, [], ◌∷◌, ◌++◌, length, map, drop, get_or, Option, None, Some}
+use Rattle.std.specs.Prelude.{◌≡◌, ◌≢◌, ◌&&◌, ℕ, ◌<◌, nat_eq, if◌then◌else◌, List, [], ◌∷◌, ◌++◌, length, map, drop, filter, fold, zip, get_or, Option, None, Some}
+use Rattle.std.specs.List.{range_with_len}
 use Rattle.std.specs.declared.cmp.Ordering.{Ordering}
 use Rattle.std.specs.FinMap as finite
 use Rattle.mt_journal.specs.Layout.{Area, Range}
 use Rattle.mt_journal.specs.Replay.{with_ranges}
 use Rattle.mt_tables.specs.Commit.{Makes}
-use Rattle.mt_tables.specs.Pages.{SlotPlace, SlotSizes, numbers_from, places_below, slot_position}
+use Rattle.mt_rowfile.specs.Pages.{is_free, slots_in}
+use Rattle.mt_tables.specs.Pages.{SlotPlace, SlotSizes, place_in, places_below, slot_position}
 use Rattle.mt_tables.specs.Tables.{TableSlot, slot_at, slots_below, tables_below}
 use Rattle.mt_tables.specs.Unique.{AreUnique}
 
@@ -37,21 +39,22 @@ without_first table free t = if nat_eq t table then drop 1 (free t) else free t
 
 -- where the slots of a page of a table begin
 abbrev pub page_positions : SlotSizes → ℕ → ℕ → List ℕ
-page_positions sizes table page = map (slot_position (sizes.width table) page) (numbers_from 0 (sizes.count table))
+page_positions sizes table page = map (slot_position (sizes.width table) page) (range_with_len 0 (sizes.count table))
 
 -- the free positions by table, with those of a new page behind
 abbrev pub with_page : SlotSizes → ℕ → ℕ → (ℕ → List ℕ) → ℕ → List ℕ
 with_page sizes table page free t = if nat_eq t table then free t ++ page_positions sizes table page else free t
 
--- The plan of these changes: ranges that make them, where each key stands once they are written, and
--- positions of each table that are free then. Of the tables that were walked a key that stands nowhere
--- is none of a slot's.
-pub record IsPlan {K V : Type 0} (sizes : SlotSizes) (read : TableSlot → Option (K × V)) (R : K → K → Ordering) (table_of : K → ℕ) (is_walked : ℕ → Bool) (count : ℕ) (pages : Area) (changes : List (K × Option V)) (ranges : List Range) (index : finite.FinMap R ℕ) (free : ℕ → List ℕ) : Type 0 where
+-- The plan of these changes: ranges that make them, where each key that was asked for stands once they
+-- are written, and positions of each table that are free then.
+pub record IsPlan {K V : Type 0} (sizes : SlotSizes) (read : TableSlot → Option (K × V)) (R : K → K → Ordering) (table_of : K → ℕ) (count : ℕ) (pages : Area) (changes : List (K × Option V)) (ranges : List Range) (index : finite.FinMap R (Option ℕ)) (free : ℕ → List ℕ) : Type 0 where
   pub made : Makes sizes read R changes ranges count pages
   pub unique : AreUnique R read (slots_below sizes count (with_ranges ranges pages))
-  pub held : (key : K) (position : ℕ) → finite.get index key ≡ Some position
+  -- a key that was found stands there
+  pub held : (key : K) (position : ℕ) → finite.get index key ≡ Some (Some position)
       → (value : V) × Says sizes read count (with_ranges ranges pages) (record { table = table_of key; position = position }) (Some (key, value))
-  pub lacked : (key : K) → is_walked (table_of key) ≡ true → finite.get index key ≡ None → finite.get (tables_below {R = R} sizes count read (with_ranges ranges pages)) key ≡ None
+  -- one that was asked for and not found stands nowhere
+  pub lacked : (key : K) → finite.get index key ≡ Some None → finite.get (tables_below {R = R} sizes count read (with_ranges ranges pages)) key ≡ None
   pub are_free : (table : ℕ) → AreFree sizes read count (with_ranges ranges pages) table (free table)
   pub are_apart : (table : ℕ) → AreApart (free table)
 
@@ -63,17 +66,19 @@ PlacedSlot = SlotPlace × TableSlot
 abbrev pub placed : SlotSizes → Area → List SlotPlace → List PlacedSlot
 placed sizes area places = map (λ place. (place, slot_at sizes area place)) places
 
--- the index with the key that a slot says, where it says one
-abbrev pub with_key : {K V : Type 0} {R : K → K → Ordering} → Option (K × V) → ℕ → finite.FinMap R ℕ → finite.FinMap R ℕ
-with_key None position index = index
-with_key (Some e) position index = finite.insert index e.0 position
+-- the slots of a page of a table, as its bytes have them
+abbrev pub placed_in : SlotSizes → ℕ → ℕ → List ℕ → List PlacedSlot
+placed_in sizes table page bytes = zip (map (place_in sizes table page) (range_with_len 0 (sizes.count table))) (map (λ slot. (table, slot)) (slots_in (sizes.width table) (sizes.count table) (drop 8 bytes)))
 
--- where the keys stand that the slots of walked tables say
-abbrev pub index_of : {K V : Type 0} {R : K → K → Ordering} → (TableSlot → Option (K × V)) → (ℕ → Bool) → List PlacedSlot → finite.FinMap R ℕ → finite.FinMap R ℕ
-index_of read is_walked [] index = index
-index_of read is_walked (slot ∷ slots) index = index_of read is_walked slots (if is_walked slot.0.table then with_key (read slot.1) slot.0.position index else index)
+-- the index with the place of the key that a slot says, where that key is asked for
+abbrev pub with_place : {K V : Type 0} {R : K → K → Ordering} → Option (K × V) → ℕ → finite.FinMap R (Option ℕ) → finite.FinMap R (Option ℕ)
+with_place None position index = index
+with_place (Some e) position index = if finite.contains_key index e.0 then finite.insert index e.0 (Some position) else index
+
+-- the index once these slots were looked at
+abbrev pub sought : {K V : Type 0} {R : K → K → Ordering} → (TableSlot → Option (K × V)) → List PlacedSlot → finite.FinMap R (Option ℕ) → finite.FinMap R (Option ℕ)
+sought read slots index = fold (λ index slot. with_place (read slot.1) slot.0.position index) index slots
 
 -- the positions of the slots of one table that are marked free, in page order
 abbrev pub free_in : ℕ → List PlacedSlot → List ℕ
-free_in table [] = []
-free_in table (slot ∷ slots) = if nat_eq slot.0.table table && (slice_index slot.1.1 0 == 0) then slot.0.position ∷ free_in table slots else free_in table slots
+free_in table slots = map (λ slot. slot.0.position) (filter (λ slot. nat_eq slot.0.table table && is_free slot.1.1) slots)
