@@ -1,6 +1,6 @@
 -- A group of ranges while it is chosen for changes, one after another, and what the pages hold once it
 -- is written.
-use Rattle.std.specs.Prelude.{◌≡◌, ◌⊎◌, ℕ, ◌+◌, ◌*◌, ◌^◌, ◌<◌, ◌≤◌, ◌&&◌, nat_eq, Bool, true, false, not, if◌then◌else◌, List, [], ◌∷◌, length, slice_index, count_by, Option, None, Some}
+use Rattle.std.specs.Prelude.{◌≡◌, ◌⊎◌, ℕ, ◌+◌, ◌*◌, ◌^◌, ◌<◌, ◌≤◌, ◌&&◌, nat_eq, Bool, true, false, not, if◌then◌else◌, List, [], ◌∷◌, length, slice_index, count_by, All, Option, None, Some}
 use Rattle.std.specs.FinMap as finite
 use Rattle.std.specs.FinSet as set
 use Rattle.mt_journal.specs.Commits.{payload_size}
@@ -11,7 +11,7 @@ use Rattle.mt_rowfile.specs.declared.layout.Head.TheVariants.{Catalogue, Convent
 use Rattle.mt_rowfile.specs.declared.layout.Layout.{Layout}
 use Rattle.mt_rowfile.specs.Layouts.{IsOfRows, body_width, slots_per_page}
 use Rattle.mt_rowfile.specs.Pages.{is_free}
-use Rattle.mt_rowfile.specs.Slots.{FitsLayout, IsMark}
+use Rattle.mt_rowfile.specs.Slots.{FitsLayout, IsBody, IsMark}
 use Rattle.mt_physplan.specs.declared.change.Change.{Change}
 use Rattle.mt_physplan.specs.declared.change.Change.TheVariants.{Put, Mark, Remove, PutCat, RemoveCat}
 use Rattle.mt_physplan.specs.declared.key.Cell.{Cell}
@@ -24,7 +24,7 @@ use Rattle.mt_places.specs.Places.{PlacesState}
 use Rattle.mt_tables.specs.Commit.{with_values}
 use Rattle.mt_tables.specs.Pages.{SlotSizes, page_count, table_at}
 use Rattle.mt_tables.specs.Plan.{IsPlan}
-use Rattle.mt_tables.specs.Rows.{KnownLayouts, body_in, catalogue_of, row_in, rows_of, sizes_of}
+use Rattle.mt_tables.specs.Rows.{IsReadableSlot, KnownLayouts, body_in, catalogue_of, row_in, rows_of, sizes_of}
 use Rattle.mt_tables.specs.Tables.{TableSlot, slots_below}
 
 -- A group so far: its ranges, where slots stand once they are written, the table of each page that it
@@ -38,11 +38,19 @@ pub record GroupState : Type 0 where
 
 -- a change that a table with this layout can have
 abbrev pub Suits : Layout → Change → Type 0
-Suits layout (Put table slot) = IsOfRows layout.head × FitsLayout layout slot
+Suits layout (Put table slot) = IsOfRows layout.head × FitsLayout layout slot × (1 ≤ slots_per_page layout)
 Suits layout (Mark table tenant row mark) = (layout.head ≡ Conventional) × IsMark Conventional mark
 Suits layout (Remove table tenant base chunk row) = IsOfRows layout.head
 Suits layout (PutCat table body) = (layout.head ≡ Catalogue table) × (length body ≡ body_width table)
 Suits layout (RemoveCat table body) = (layout.head ≡ Catalogue table) × (length body ≡ body_width table)
+
+-- a slot of the catalogue that a change puts can be read
+abbrev pub PutsReadable : Change → Type 0
+PutsReadable (Put table slot) = Unit {0}
+PutsReadable (Mark table tenant row mark) = Unit {0}
+PutsReadable (Remove table tenant base chunk row) = Unit {0}
+PutsReadable (PutCat table body) = IsBody table body
+PutsReadable (RemoveCat table body) = Unit {0}
 
 -- what a change names was asked for
 abbrev pub IsAsked : Change → PlacesState → Type 0
@@ -96,5 +104,8 @@ pub record IsGroup (known : KnownLayouts) (count : ℕ) (area : Area) (start : �
   pub filled : (t : ℕ) → group.taken t + length (group.places.free t) ≡ start t + pages_of t group.added * (sizes_of known).count t
   pub needed : (t : ℕ) → 1 ≤ pages_of t group.added → length (group.places.free t) < (sizes_of known).count t
   pub used : (t : ℕ) → used_in (sizes_of known) t (count + length group.added) (with_ranges group.ranges area) + group.freed t ≡ used_in (sizes_of known) t count area + group.taken t
+  -- where each slot could be read, each can
+  pub readable : All (IsReadableSlot known) (slots_below (sizes_of known) count area) → All PutsReadable changes
+      → All (IsReadableSlot known) (slots_below (sizes_of known) (count + length group.added) (with_ranges group.ranges area))
   pub few : length group.ranges ≤ 3 * length changes
   pub short : payload_size group.ranges ≤ 4 + 12324 * length changes
