@@ -1,0 +1,4 @@
+pub mod Lent
+pub mod LentLaws
+pub mod Opened
+pub mod Standing

@@ -1,0 +1,35 @@
+-- How a store stands for a machine.
+use Rattle.std.specs.Prelude.{◌≡◌, ℕ, ◌-◌, ◌&&◌, IsTrue, nat_eq, not, List, length, count_by, slice_index}
+use Rattle.mt_machine.specs.declared.machine.Area.TheVariants.{Pages}
+use Rattle.mt_machine.specs.Meaning.{Meaning}
+use Rattle.mt_journal.specs.Commits.{StandsFor}
+use Rattle.mt_journal.specs.Layout.{Area}
+use Rattle.mt_rowfile.specs.Pages.{is_free}
+use Rattle.mt_tables.specs.Pages.{SlotSizes}
+use Rattle.mt_tables.specs.Rows.{AreKnown, sizes_of}
+use Rattle.mt_tables.specs.Tables.{slots_below}
+use Rattle.mt_pages.specs.Standing.{Counts}
+use Rattle.mt_directory.specs.Directory.{directory_of}
+use Rattle.mt_chunkstore.specs.declared.store.Store.{Store}
+
+-- how many slots of a table are in use in the pages below a number
+abbrev pub used_in : SlotSizes → ℕ → ℕ → Area → ℕ
+used_in sizes table count area = count_by (λ slot. nat_eq slot.0 table && not (is_free slot.1)) (slots_below sizes count area)
+
+-- The store stands for the machine: its journal does, its pages are counted as page 0 says, its
+-- directory has the table of each page, and its counts are those of the slots in use.
+pub record Stands (store : Store) (machine : Meaning) : Type 0 where
+  pub journal : StandsFor store.journal machine
+  pub pages : Counts store.pages machine
+  pub sized : length store.directory.tables ≡ store.pages - 1
+  pub known : AreKnown store.layouts
+  pub directory : IsTrue machine.tells → store.directory.tables ≡ directory_of store.pages (machine.content Pages)
+  pub used : IsTrue machine.tells → (table : ℕ) → slice_index store.used table ≡ used_in (sizes_of store.layouts) table store.pages (machine.content Pages)
+
+-- a store is as it was but for its counts of scans
+pub record SameStore (old new : Store) : Type 0 where
+  pub journal : new.journal ≡ old.journal
+  pub pages : new.pages ≡ old.pages
+  pub layouts : new.layouts ≡ old.layouts
+  pub directory : new.directory ≡ old.directory
+  pub used : new.used ≡ old.used
