@@ -1,4 +1,1 @@
-pub mod Lent
-pub mod LentLaws
-pub mod Opened
-pub mod Standing
+pub mod Changes
