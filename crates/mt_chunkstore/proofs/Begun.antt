@@ -1,5 +1,5 @@
 -- What a look through the pages found is the group of no changes.
-use Rattle.std.proofs.Common.{◌≡◌, ℕ, ◌+◌, ◌*◌, ◌<◌, ◌≤◌, ◌&&◌, nat_eq, min, cond, List, [], ◌∷◌, length, map, take, Option, None, Some, refl, sym, ap, subst, ◌∙◌, arith}
+use Rattle.std.proofs.Common.{◌≡◌, ℕ, ◌+◌, ◌*◌, ◌<◌, ◌≤◌, ◌^◌, ◌&&◌, nat_eq, min, cond, List, [], ◌∷◌, length, map, take, Option, None, Some, refl, sym, ap, subst, ◌∙◌, arith}
 use Rattle.std.specs.Prelude.{count_by, filter, filter_map, All}
 use Rattle.std.specs.FinMap as finite
 use Rattle.std.proofs.lemmas.List.{length-map, length-take}
@@ -22,6 +22,7 @@ use Rattle.mt_tables.proofs.Begins.{plan_begins}
 use Rattle.mt_tables.proofs.Bodies.{bodies_exact, bodies_total}
 use Rattle.mt_tables.proofs.Readings.{body_free, body_of_table, row_free, row_of_table}
 use Rattle.mt_tables.proofs.Sizes.{sizes_sound}
+use Rattle.mt_pages.specs.Control.{IsPageZero}
 use Rattle.mt_places.specs.Named.{body_key, is_of, is_put, row_key}
 use Rattle.mt_places.specs.Places.{IsBegun, PlacesState}
 use Rattle.mt_staging.specs.Group.{GroupState, IsGroup, pages_of, used_in}
@@ -45,10 +46,10 @@ free_counted sizes area table places =
 
 -- a group of no ranges over what was found
 pub group_begins : (known : KnownLayouts) (area : Area) (count : ℕ) (changes : List Change) (begun : PlacesState) (group : GroupState)
-    → ArePages known area → page_count area ≡ count → IsBegun changes begun → IsWalked known area count begun group.places
+    → ArePages known area → page_count area ≡ count → count ≤ 2 ^ 28 → IsBegun changes begun → IsWalked known area count begun group.places
     → group.ranges ≡ [] → group.added ≡ [] → ((table : ℕ) → group.taken table ≡ 0) → ((table : ℕ) → group.freed table ≡ 0)
     → IsGroup known count area (free_at_start known changes count area) [] group
-group_begins known area count changes begun group pages counted start walked ranges added taken freed =
+group_begins known area count changes begun group pages counted upto start walked ranges added taken freed =
     let sizes = sizes_of known in
     let here : count + length group.added ≡ count = (let l = ap length added in omega (arith, l)) in
     let same : page_count area ≡ count + length group.added = counted ∙ sym here in
@@ -93,6 +94,9 @@ group_begins known area count changes begun group pages counted start walked ran
           ap (λ n. n + group.freed t) (ap (λ m. used_in sizes t m (with_ranges group.ranges area)) here ∙ ap (used_in sizes t count) none)
           ∙ ap (λ n. used_in sizes t count area + n) (freed t ∙ sym (taken t));
       readable = λ all puts. subst (λ a. All (IsReadableSlot known) (slots_below sizes (count + length group.added) a)) (sym none) (subst (λ n. All (IsReadableSlot known) (slots_below sizes n area)) (sym here) all);
+      page_zero = λ is. subst IsPageZero (sym none) is;
+      tables_few = λ i within. absurd (let l = ap length added in omega arith);
+      pages_few = omega (arith, here, upto);
       few = (let l = ap length ranges in omega arith);
       short = (let l = ap payload_size ranges in omega arith);
     }

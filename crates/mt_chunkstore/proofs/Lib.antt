@@ -1,3 +1,4 @@
 pub mod Walked
 pub mod Begun
 pub mod Needed
+pub mod Chosen

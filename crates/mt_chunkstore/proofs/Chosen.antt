@@ -1,0 +1,158 @@
+-- What a group of all changes means for the store, and that none of its steps is refused where the
+-- changes may be made.
+use Rattle.std.proofs.Common.{◌≡◌, ◌⊎◌, inl, inr, ℕ, zero, suc, ◌+◌, ◌-◌, ◌*◌, ◌<◌, ◌≤◌, ◌^◌, ◌&&◌, nat_eq, nat_le, min, Bool, true, false, cond, not, List, [], ◌∷◌, ◌++◌, length, map, slice_index, Option, None, Some, refl, sym, ap, subst, ◌∙◌, arith}
+use Rattle.std.specs.Prelude.{count_by, sum_by, filter_map, is_some, All}
+use Rattle.std.specs.List.{range_with_len}
+use Rattle.std.specs.FinMap as finite
+use Rattle.std.proofs.lemmas.Bool.Decides.{nat_tests}
+use Rattle.mt_journal.specs.Layout.{Area}
+use Rattle.mt_journal.specs.Replay.{with_ranges}
+use Rattle.mt_physplan.specs.declared.change.Change.{Change}
+use Rattle.mt_physplan.specs.declared.change.Change.TheVariants.{Put, Mark, Remove, PutCat, RemoveCat}
+use Rattle.mt_rowfile.specs.declared.slot.SlotRow.{SlotRow}
+use Rattle.mt_physplan.specs.declared.key.Key.{Key}
+use Rattle.mt_physplan.specs.Applied.{Catalogue, applied, applied_by, body_cmp, catalogue_applied, catalogue_applied_by}
+use Rattle.mt_physplan.specs.Content.{Content}
+use Rattle.mt_physplan.specs.Keys.{key_cmp, key_in}
+use Rattle.mt_tables.specs.Pages.{page_count, table_at}
+use Rattle.mt_tables.specs.Rows.{ArePages, IsReadableSlot, KnownLayouts, body_in, catalogue_of, row_in, rows_of, sizes_of}
+use Rattle.mt_tables.specs.Tables.{slots_below}
+use Rattle.mt_tables.specs.Unique.{AreUnique}
+use Rattle.mt_directory.specs.Directory.{directory_of, listed_table}
+use Rattle.mt_places.specs.Named.{is_of, is_put, table_of}
+use Rattle.mt_places.specs.Places.{PlacesState}
+use Rattle.mt_staging.specs.Group.{GroupState, IsGroup, IsLost, PutsReadable, is_new, new_keys, pages_of}
+use Rattle.mt_chunkstore.specs.Changes.{AreChanged, AreThere, IsThere, MayChange, all_needed, free_at_start, free_count, pages_needed}
+use Rattle.mt_chunkstore.proofs.Needed.{new_keys-append, new_keys_upto, one_larger, page_wanted, pages_exact, pages_together, pages_wanted}
+
+there_then : (changes more : List Change) (rows : Content) (catalogue : Catalogue) → AreThere (changes ++ more) rows catalogue → AreThere more (applied changes rows) (catalogue_applied changes catalogue)
+there_then [] more rows catalogue there = there
+there_then (change ∷ changes) more rows catalogue there = there_then changes more (applied_by change rows) (catalogue_applied_by change catalogue) there.1
+
+module _ (known : KnownLayouts) (count : ℕ) (area : Area) (start : ℕ → ℕ) (changes : List Change) (group : GroupState) (is : IsGroup known count area start changes group) where
+  -- a row that was asked for and not found is none after the changes so far
+  row_lacked : (key : Key) → finite.get group.places.rows key ≡ Some None → finite.get (applied changes (rows_of known area)) key ≡ None
+  row_lacked key none = ap (λ rows. finite.get rows key) (sym (is.rows.made ∙ is.row_changes)) ∙ is.rows.lacked key none
+
+  body_lacked : (key : ℕ × List ℕ) → finite.get group.places.bodies key ≡ Some None → finite.get (catalogue_applied changes (catalogue_of known area)) key ≡ None
+  body_lacked key none = ap (λ bodies. finite.get bodies key) (sym (is.bodies.made ∙ is.body_changes)) ∙ is.bodies.lacked key none
+
+  -- what is to be there is not lost
+  pub none_lost : (change : Change) → IsThere change (applied changes (rows_of known area)) (catalogue_applied changes (catalogue_of known area)) → IsLost change group.places → ⊥
+  none_lost (Put table slot) there lost = lost
+  none_lost (Mark table tenant row mark) there lost = let h = row_lacked lost.0 lost.2 in let e = lost.1 in cc
+  none_lost (Remove table tenant base chunk row) there lost = let h = row_lacked lost.0 lost.2 in let e = lost.1 in cc
+  none_lost (PutCat table body) there lost = lost
+  none_lost (RemoveCat table body) there lost = let h = body_lacked (table, body) lost in cc
+
+  -- a slot that a change puts where none stands is new
+  new_row : (table : ℕ) (slot : SlotRow) → finite.get group.places.rows (key_in table slot) ≡ Some None → is_new (Put table slot) (applied changes (rows_of known area)) (catalogue_applied changes (catalogue_of known area)) ≡ true
+  new_row table slot none = ap (λ found. not (is_some found)) (row_lacked (key_in table slot) none)
+
+  new_body : (table : ℕ) (body : List ℕ) → finite.get group.places.bodies (table, body) ≡ Some None → is_new (PutCat table body) (applied changes (rows_of known area)) (catalogue_applied changes (catalogue_of known area)) ≡ true
+  new_body table body none = ap (λ found. not (is_some found)) (body_lacked (table, body) none)
+
+  -- A page that a change needs is among those that all changes need.
+  pub not_full : (change : Change) (rest : List Change) → ((t : ℕ) → start t ≡ free_at_start known (changes ++ change ∷ rest) count area t)
+      → is_new change (applied changes (rows_of known area)) (catalogue_applied changes (catalogue_of known area)) ≡ true → group.places.free (table_of change) ≡ [] → table_of change < 32 → 1 ≤ (sizes_of known).count (table_of change)
+      → count + length group.added + 1 ≤ count + all_needed known (changes ++ change ∷ rest) count area
+  not_full change rest starts new none few some =
+      let together = pages_together group.added is.tables_few in
+      let larger = one_larger (λ t. pages_of t group.added) (pages_needed known (changes ++ change ∷ rest) count area) (table_of change) few (λ t. by t (nat_eq (table_of change) t) refl) in
+      omega (arith, together, larger)
+    where
+      all : ℕ → ℕ
+      all t = new_keys t (changes ++ change ∷ rest) (rows_of known area) (catalogue_of known area)
+
+      puts : ℕ → ℕ
+      puts t = count_by (λ change. is_put change && is_of t change) (changes ++ change ∷ rest)
+
+      filled : (t : ℕ) → new_keys t changes (rows_of known area) (catalogue_of known area) + length (group.places.free t) ≡ min (puts t) (free_count (sizes_of known) t count area) + pages_of t group.added * (sizes_of known).count t
+      filled t = ap (λ n. n + length (group.places.free t)) (sym (is.taken t)) ∙ is.filled t ∙ ap (λ n. n + pages_of t group.added * (sizes_of known).count t) (starts t)
+
+      by : (t : ℕ) (b : Bool) → nat_eq (table_of change) t ≡ b → pages_of t group.added + cond b 1 0 ≤ pages_needed known (changes ++ change ∷ rest) count area t
+      by t true e =
+          let same : table_of change ≡ t = grind (arith, nat_tests, e) in
+          let empty : length (group.places.free t) ≡ 0 = ap (λ u. length (group.places.free u)) (sym same) ∙ ap length none in
+          let per : 1 ≤ (sizes_of known).count t = subst (λ u. 1 ≤ (sizes_of known).count u) same some in
+          let split = new_keys-append t changes (change ∷ rest) (rows_of known area) (catalogue_of known area) in
+          let one : ◌≡◌ {A = ℕ} (cond (nat_eq (table_of change) t && is_new change (applied changes (rows_of known area)) (catalogue_applied changes (catalogue_of known area))) 1 0) 1 = ap (λ c. cond (c && is_new change (applied changes (rows_of known area)) (catalogue_applied changes (catalogue_of known area))) 1 0) e ∙ ap (λ c. cond c 1 0) new in
+          let f = filled t in
+          let upto = new_keys_upto t (changes ++ change ∷ rest) (rows_of known area) (catalogue_of known area) in
+          let more = page_wanted (all t) (new_keys t changes (rows_of known area) (catalogue_of known area)) (puts t) (free_count (sizes_of known) t count area) (pages_of t group.added) ((sizes_of known).count t) per (omega (arith, f, empty)) (omega (arith, split, one)) upto in
+          omega (arith, more)
+      by t false e =
+          let split = new_keys-append t changes (change ∷ rest) (rows_of known area) (catalogue_of known area) in
+          let upto = new_keys_upto t (changes ++ change ∷ rest) (rows_of known area) (catalogue_of known area) in
+          let more = pages_wanted (all t) (new_keys t changes (rows_of known area) (catalogue_of known area)) (length (group.places.free t)) (puts t) (free_count (sizes_of known) t count area) (pages_of t group.added) ((sizes_of known).count t) (filled t) (omega (arith, split)) upto (is.needed t) in
+          omega (arith, more)
+
+module _ (known : KnownLayouts) (count : ℕ) (area : Area) (changes : List Change) (group : GroupState) (is : IsGroup known count area (free_at_start known changes count area) changes group) where
+  -- the pages that a group makes are those that its changes need
+  pub all_made : length group.added ≡ all_needed known changes count area
+  all_made = sym (pages_together group.added is.tables_few) ∙ ap (λ (f : ℕ → ℕ). sum_by f (range_with_len 0 32)) (λ i t. each t i)
+    where
+      each : (t : ℕ) → pages_of t group.added ≡ pages_needed known changes count area t
+      each t =
+          let taken = is.taken t in
+          let filled = is.filled t in
+          pages_exact (new_keys t changes (rows_of known area) (catalogue_of known area)) (length (group.places.free t)) (count_by (λ change. is_put change && is_of t change) changes) (free_count (sizes_of known) t count area) (pages_of t group.added) ((sizes_of known).count t)
+          (omega (arith, taken, filled)) (new_keys_upto t changes (rows_of known area) (catalogue_of known area)) (is.needed t)
+
+  -- once it is written, the pages hold what they held after the changes
+  pub group_changed : AreChanged known changes area (with_ranges group.ranges area)
+  group_changed = record {
+    rows = ap (λ n. finite.from_entries (filter_map (row_in known) (slots_below (sizes_of known) n (with_ranges group.ranges area)))) is.counted ∙ is.rows.made ∙ is.row_changes;
+    catalogue = ap (λ n. finite.from_entries (filter_map body_in (slots_below (sizes_of known) n (with_ranges group.ranges area)))) is.counted ∙ is.bodies.made ∙ is.body_changes;
+  }
+
+  -- and can be read, where what was put can
+  pub group_sound : page_count area ≡ count → ArePages known area → All PutsReadable changes → ArePages known (with_ranges group.ranges area)
+  group_sound counted pages puts = record {
+    readable = subst (λ n. All (IsReadableSlot known) (slots_below (sizes_of known) n (with_ranges group.ranges area))) (sym is.counted)
+        (is.readable (subst (λ n. All (IsReadableSlot known) (slots_below (sizes_of known) n area)) counted pages.readable) puts);
+    rows_once = subst (λ n. AreUnique key_cmp (row_in known) (slots_below (sizes_of known) n (with_ranges group.ranges area))) (sym is.counted) is.rows.unique;
+    bodies_once = subst (λ n. AreUnique body_cmp body_in (slots_below (sizes_of known) n (with_ranges group.ranges area))) (sym is.counted) is.bodies.unique;
+  }
+
+  listed_few : (table : ℕ) → table < 32 → listed_table table ≡ table
+  listed_few table few = by (nat_le table 31) refl
+    where
+      by : (b : Bool) → nat_le table 31 ≡ b → cond b table 0 ≡ table
+      by true e = refl
+      by false e = absurd (let h : 31 < table = grind (arith, nat_tests, e) in omega arith)
+
+  -- the directory has the tables of the pages that the group makes behind those that were
+  pub group_listed : 1 ≤ count → directory_of (count + length group.added) (with_ranges group.ranges area) ≡ directory_of count area ++ group.added
+  group_listed some =
+      let e : count + length group.added - 1 ≡ (count - 1) + length group.added = omega arith in
+      ap (λ n. map (λ page. listed_table (table_at (with_ranges group.ranges area) page)) (range_with_len 1 n)) e
+      ∙ first 1 (count - 1) (omega arith) (λ page from upto. is.tables_stand page from (omega arith))
+    where
+      -- the pages that the group makes, from one on
+      later : (i n : ℕ) (added : List ℕ) → length added ≡ n → ((j : ℕ) → j < n → slice_index added j ≡ slice_index group.added (i + j)) → i + n ≡ length group.added
+          → map (λ page. listed_table (table_at (with_ranges group.ranges area) page)) (range_with_len (count + i) n) ≡ added
+      later i zero [] size same end = refl
+      later i (suc n) [] size same end = absurd (omega arith)
+      later i zero (table ∷ added) size same end = absurd (omega arith)
+      later i (suc n) (table ∷ added) size same end =
+          let here : slice_index group.added i ≡ table = (let h = same 0 (omega arith) in let z : i + 0 ≡ i = omega arith in ap (slice_index group.added) (sym z) ∙ sym h) in
+          let one : listed_table (table_at (with_ranges group.ranges area) (count + i)) ≡ table =
+          ap listed_table (is.tables_added i (omega arith) ∙ here) ∙ listed_few table (subst (λ t. t < 32) here (is.tables_few i (omega arith))) in
+          let next : count + i + 1 ≡ count + (i + 1) = omega arith in
+          let rest = later (i + 1) n added (omega arith) (λ j within. same (suc j) (omega arith) ∙ ap (slice_index group.added) (omega arith)) (omega arith) in
+          λ k. one k ∷ (ap (λ first. map (λ page. listed_table (table_at (with_ranges group.ranges area) page)) (range_with_len first n)) next ∙ rest) k
+
+      -- and those in front of them
+      first : (from n : ℕ) → from + n ≡ count → ((page : ℕ) → from ≤ page → page < count → table_at (with_ranges group.ranges area) page ≡ table_at area page)
+          → map (λ page. listed_table (table_at (with_ranges group.ranges area) page)) (range_with_len from (n + length group.added)) ≡ map (λ page. listed_table (table_at area page)) (range_with_len from n) ++ group.added
+      first from zero end same =
+          let z : 0 + length group.added ≡ length group.added = omega arith in
+          let c : from ≡ count + 0 = omega arith in
+          ap (λ n. map (λ page. listed_table (table_at (with_ranges group.ranges area) page)) (range_with_len from n)) z
+          ∙ ap (λ f. map (λ page. listed_table (table_at (with_ranges group.ranges area) page)) (range_with_len f (length group.added))) c
+          ∙ later 0 (length group.added) group.added refl (λ j within. ap (slice_index group.added) (omega arith)) (omega arith)
+      first from (suc n) end same =
+          let s : suc n + length group.added ≡ suc (n + length group.added) = omega arith in
+          ap (λ n. map (λ page. listed_table (table_at (with_ranges group.ranges area) page)) (range_with_len from n)) s
+          ∙ (λ k. listed_table (same from (omega arith) (omega arith) k) ∷ first (from + 1) n (omega arith) (λ page low high. same page (omega arith) high) k)
