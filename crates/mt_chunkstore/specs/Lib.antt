@@ -1,4 +1,3 @@
-pub mod Lent
-pub mod LentLaws
+pub mod Found
 pub mod Opened
 pub mod Standing
