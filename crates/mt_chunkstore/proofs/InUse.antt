@@ -131,7 +131,7 @@ pub directory_at : (count n : ℕ) (area : Area) → 1 ≤ n → n < count → s
 directory_at count n area some within = get_or-map-range_with_len (λ (page : ℕ). listed_table (table_at area page)) 1 (count - 1) (n - 1) n 0 (omega arith) (omega arith)
 
 -- what is picked of the numbers from 1 on, with one number more
-pub picked_more : {X : Type 0} (f : ℕ → X) (test : ℕ → Bool) (n : ℕ) → 1 ≤ n → map f (filter test (range_with_len 1 (n + 1 - 1))) ≡ map f (filter test (range_with_len 1 (n - 1))) ++ cond (test n) (f n ∷ []) []
+picked_more : {X : Type 0} (f : ℕ → X) (test : ℕ → Bool) (n : ℕ) → 1 ≤ n → map f (filter test (range_with_len 1 (n + 1 - 1))) ≡ map f (filter test (range_with_len 1 (n - 1))) ++ cond (test n) (f n ∷ []) []
 picked_more f test n some =
     let count : n + 1 - 1 ≡ suc (n - 1) = omega arith in
     ap (λ ns. map f (filter test ns)) (ap (range_with_len 1) count ∙ range_more 1 (n - 1) n (omega arith))
@@ -142,6 +142,12 @@ picked_more f test n some =
     by : (b : Bool) → map f (cond b (n ∷ []) []) ≡ cond b (f n ∷ []) []
     by true = refl
     by false = refl
+
+pub picked_yes : {X : Type 0} (f : ℕ → X) (test : ℕ → Bool) (n : ℕ) → 1 ≤ n → test n ≡ true → map f (filter test (range_with_len 1 (n + 1 - 1))) ≡ map f (filter test (range_with_len 1 (n - 1))) ++ f n ∷ []
+picked_yes f test n some passes = picked_more f test n some ∙ ap (λ b. map f (filter test (range_with_len 1 (n - 1))) ++ cond b (f n ∷ []) []) passes
+
+pub picked_no : {X : Type 0} (f : ℕ → X) (test : ℕ → Bool) (n : ℕ) → 1 ≤ n → test n ≡ false → map f (filter test (range_with_len 1 (n + 1 - 1))) ≡ map f (filter test (range_with_len 1 (n - 1)))
+picked_no f test n some fails = picked_more f test n some ∙ ap (λ b. map f (filter test (range_with_len 1 (n - 1))) ++ cond b (f n ∷ []) []) fails ∙ append-nil (map f (filter test (range_with_len 1 (n - 1))))
 
 -- no more slots of a page are free than it has
 pub free_few : (layout : Layout) (page : List ℕ) → free_slots layout page ≤ slots_per_page layout

@@ -1,3 +1,4 @@
 pub mod InUse
 pub mod Kept
+pub mod Opening
 pub mod Surveying
