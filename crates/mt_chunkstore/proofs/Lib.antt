@@ -1,4 +1,8 @@
-pub mod Walked
 pub mod Begun
-pub mod Needed
 pub mod Chosen
+pub mod InUse
+pub mod Kept
+pub mod Needed
+pub mod Opening
+pub mod Surveying
+pub mod Walked

@@ -2,12 +2,11 @@
 //! gives the slots that it asks for in order of Row and looks at no page of another table.
 #![tactic(auto)]
 
-mod lent;
-mod page_scan;
+mod sizes;
 mod store;
-mod table_scan;
+mod survey;
 
-pub use lent::Lent;
+pub use sizes::{Sizes, TableSize};
 pub use store::{Store, StoreFault};
 
 #[cfg(test)]
