@@ -1,4 +1,4 @@
+pub mod Asking
 pub mod Lent
 pub mod LentLaws
-pub mod Opened
 pub mod Standing
