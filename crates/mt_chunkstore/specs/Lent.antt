@@ -5,6 +5,7 @@ use Rattle.mt_machine.specs.Leaves.{Looks}
 use Rattle.mt_machine.specs.Meaning.{Meaning}
 use Rattle.mt_physplan.specs.Phys.{PhysMeaning}
 use Rattle.mt_tables.specs.Rows.{ArePages, rows_of}
+use Rattle.mt_directory.specs.Known.{known_in}
 use Rattle.mt_chunkstore.specs.declared.store.Store.{Store}
 use Rattle.mt_chunkstore.specs.Standing.{SameStore}
 
@@ -12,8 +13,8 @@ use Rattle.mt_chunkstore.specs.Standing.{SameStore}
 -- machine tells its content, each slot can be read, and no two in use have one key.
 abbrev pub lent_meaning : Store → Meaning → PhysMeaning
 lent_meaning store machine = record {
-  tells = IsTrue machine.tells × ArePages store.layouts (machine.content Pages);
-  content = rows_of store.layouts (machine.content Pages);
+  tells = IsTrue machine.tells × ArePages (known_in store.layouts) (machine.content Pages);
+  content = rows_of (known_in store.layouts) (machine.content Pages);
   scans = slice_index store.scans.each;
   faults = machine.disk_faults;
 }

@@ -10,6 +10,7 @@ use Rattle.mt_tables.specs.Rows.{AreKnown, sizes_of}
 use Rattle.mt_tables.specs.Tables.{slots_below}
 use Rattle.mt_pages.specs.Standing.{Counts}
 use Rattle.mt_directory.specs.Directory.{directory_of}
+use Rattle.mt_directory.specs.Known.{known_in}
 use Rattle.mt_chunkstore.specs.declared.store.Store.{Store}
 
 -- how many slots of a table are in use in the pages below a number
@@ -22,9 +23,9 @@ pub record Stands (store : Store) (machine : Meaning) : Type 0 where
   pub journal : StandsFor store.journal machine
   pub pages : Counts store.pages machine
   pub sized : length store.directory.tables ≡ store.pages - 1
-  pub known : AreKnown store.layouts
+  pub known : AreKnown (known_in store.layouts)
   pub directory : IsTrue machine.tells → store.directory.tables ≡ directory_of store.pages (machine.content Pages)
-  pub used : IsTrue machine.tells → (table : ℕ) → slice_index store.used table ≡ used_in (sizes_of store.layouts) table store.pages (machine.content Pages)
+  pub used : IsTrue machine.tells → (table : ℕ) → slice_index store.used table ≡ used_in (sizes_of (known_in store.layouts)) table store.pages (machine.content Pages)
 
 -- a store is as it was but for its counts of scans
 pub record SameStore (old new : Store) : Type 0 where

@@ -8,7 +8,4 @@ mod store;
 mod table_scan;
 
 pub use lent::Lent;
-pub use store::{Store, StoreFault};
-
-#[cfg(test)]
-mod tests;
+pub use store::Store;

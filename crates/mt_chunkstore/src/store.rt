@@ -1,34 +1,7 @@
-ghost use Rattle.std.specs.Prelude.{◌≡◌, ◌<◌, ◌≤◌, ◌*◌, ◌^◌, IfOk, OnOk, IsTrue, IsErrOf};
-ghost use Rattle.mt_machine.specs.Calls.{HasCause};
-ghost use Rattle.mt_machine.specs.Leaves.{Leaves, Looks};
-ghost use Rattle.mt_machine.specs.declared.machine.Area.TheVariants as areas;
-ghost use Rattle.mt_journal.specs.Commits.{KeepsReplay, OldOrReplays};
-ghost use Rattle.mt_tables.specs.Pages.{bytes_at};
-ghost use Rattle.mt_chunkstore.specs.Opened.{IsOpened, OpenFails, StoreCause};
-ghost use Rattle.mt_chunkstore.specs.Standing.{SameStore, Stands};
-
 use mt_directory::{Directory, Layouts};
-use mt_journal::{Journal, RecoverFault};
-use mt_machine::{Failed, Machine};
-use mt_pages::{PAGE_SIZE, Pages, PagesFault};
+use mt_journal::Journal;
+use mt_pages::Pages;
 use mt_physplan::ScanCounts;
-use std::alloc::{AllocError, Global};
-use thiserror::Error;
-
-/// Why a disk was not opened as a store.
-#[derive(Clone, Copy, Debug, PartialEq, Eq, Error)]
-pub enum StoreFault {
-    #[error("disk fault")]
-    Disk,
-    /// The log has an open group that does not decode.
-    #[error("damaged log")]
-    Log,
-    /// Page 0 is neither blank nor one that counts the pages.
-    #[error("damaged page 0")]
-    Control,
-    #[error("out of memory")]
-    Memory,
-}
 
 /// The physical tables on a disk.
 #[derive(Debug, Drop)]
@@ -40,69 +13,4 @@ pub struct Store {
     // slots in use, by table
     pub(crate) used: [u64; 32],
     pub(crate) scans: ScanCounts,
-}
-
-impl Store {
-    /// Opens the disk: replays its log, reads page 0, and looks at every page once for its table and
-    /// its slots in use. No conventional table is known. `Log` comes exactly where the log does not
-    /// decode, and nothing was written then; `Control` exactly where page 0 is damaged; `Disk` is a
-    /// call of the machine that failed, `Memory` want of memory. After each the disk replays to what
-    /// it did.
-    pub fn load<M: Machine>(m: &mut M, alloc: Global) -> Result<Store, StoreFault>
-        ensures ok { IfOk result (λ store. IsOpened store (M.meaning m.old) (M.meaning m.new)) }
-        ensures fails { OpenFails result (M.meaning m.old) (M.meaning m.new) }
-        ensures untouched { IsErrOf result StoreFault.Log → Looks (M.meaning m.old) (M.meaning m.new) }
-        ensures content { IsTrue (M.meaning m.new).tells → KeepsReplay (M.meaning m.old).content (M.meaning m.new).content }
-        ensures any_moment { Leaves (OldOrReplays (M.meaning m.old)) (M.meaning m.old) (M.meaning m.new) }
-        ensures cause { StoreCause result (M.meaning m.old).disk_faults (M.meaning m.new).disk_faults }
-        ensures beneath { M.beneath m.old m.new }
-    {
-        let journal = Journal::recover(m)?;
-        let pages = Pages::load(m)?;
-        let layouts = Layouts::new(alloc)?;
-        // then one function that reads each page behind page 0 and gives Directory and used
-        let (directory, used) = survey(m, alloc, &mut pages, &layouts)?;
-        Ok(Store { journal, pages, layouts, directory, used, scans: ScanCounts::new() })
-    }
-
-    /// The number of pages, page 0 among them.
-    pub fn pages(&self) -> u64
-        ensures { result ≡ self.now.pages }
-    {
-        self.pages.count()
-    }
-
-    /// Reads page `n`, counted from 0. After `Failed` the buffer may hold anything.
-    pub fn read_page<M: Machine>(&mut self, m: &mut M, n: u64, into: &mut [u8; PAGE_SIZE]) -> Result<(), Failed>
-        requires stands { Stands self.old (M.meaning m.old) }
-        requires page { n < self.old.pages }
-        ensures bytes { OnOk result (IsTrue (M.meaning m.new).tells → into.new ≡ bytes_at ((M.meaning m.old).content areas.Pages) (4096 * n) 4096) }
-        ensures same { SameStore self.old self.new }     // and scans: self.new.scans ≡ self.old.scans
-        ensures stands { Stands self.new (M.meaning m.new) }
-        ensures looks { Looks (M.meaning m.old) (M.meaning m.new) }
-        ensures cause { HasCause (M.meaning m.old).disk_faults (M.meaning m.new).disk_faults result }
-        ensures beneath { M.beneath m.old m.new }
-    {
-        self.pages.read(m, n, into)
-    }
-
-    /// The physical tables that have a page and a layout that is known, ascending: the table, its pages and its slots in use.
-    /// `AllocError` is want of memory.
-    pub fn sizes(&self, alloc: Global) -> Result<Sizes, AllocError>
-        ensures { IfOk result (λ sizes. sizes ≡ sizes_in self.now) }
-    // pub struct TableSize { pub table: u32, pub pages: u64, pub used: u64 }   type Sizes = List<TableSize>
-    // sizes_in store (specs/Standing): map of the tables 1..31 that pass the test (a page in the directory, layout_of known table is Some)
-
-    /// Makes the layout of a conventional table known and counts its slots in use. `Disk` is a read that failed, `Memory` want of memory;
-    /// after both the store is as it was.
-    pub fn add_layout<M: Machine>(&mut self, m: &mut M, table: u32, layout: Layout) -> Result<(), PhysFault-like StageFault { Disk, Memory }>
-        requires stands { Stands self.old (M.meaning m.old) }
-        requires from { 16 ≤ table }
-        requires upto { table ≤ 31 }
-        requires head { layout.head ≡ Conventional }
-        requires sound { IsLayout layout }
-        requires new { (self.old.layouts table ≡ None) ⊎ (count_by (nat_eq table) self.old.directory.tables ≡ 0) }
-        ensures ok { OnOk result (Stands self.new (M.meaning m.new) × (self.new.layouts ≡ with_layout table layout self.old.layouts)) }
-        ensures rest: journal, pages, directory, scans as before; on a fault the whole store
-        ensures looks, cause, beneath
 }
