@@ -1,8 +1,12 @@
 pub mod Begun
 pub mod Chosen
+pub mod Found
 pub mod InUse
 pub mod Kept
+pub mod Lending
 pub mod Needed
+pub mod OnePage
 pub mod Opening
+pub mod Slots
 pub mod Surveying
 pub mod Walked

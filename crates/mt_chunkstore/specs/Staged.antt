@@ -5,6 +5,7 @@ use Rattle.mt_machine.specs.Meaning.{Meaning, Rose}
 use Rattle.mt_journal.specs.Commits.{payload_size}
 use Rattle.mt_physplan.specs.declared.change.Change.{Change}
 use Rattle.mt_tables.specs.Rows.{ArePages, KnownLayouts}
+use Rattle.mt_directory.specs.Known.{known_in}
 use Rattle.mt_staging.specs.Group.{GroupState, IsGroup, PutsReadable}
 use Rattle.mt_staging.specs.declared.group.StageFault.{StageFault}
 use Rattle.mt_staging.specs.declared.group.StageFault.TheVariants as faults
@@ -17,8 +18,8 @@ pub record IsStaged (changes : List Change) (group : GroupState) (store : Store)
   pub short : payload_size group.ranges ≤ 2 ^ 41
   pub few : store.pages + length group.added ≤ 2 ^ 28
   pub room : length group.added ≤ store.directory.room
-  pub made : IsTrue machine.tells → MayChange store.layouts changes store.pages (machine.content Pages)
-      → IsGroup store.layouts store.pages (machine.content Pages) (free_at_start store.layouts changes store.pages (machine.content Pages)) changes group
+  pub made : IsTrue machine.tells → MayChange (known_in store.layouts) changes store.pages (machine.content Pages)
+      → IsGroup (known_in store.layouts) store.pages (machine.content Pages) (free_at_start (known_in store.layouts) changes store.pages (machine.content Pages)) changes group
 
 -- a fault of the device is answered only where one was counted, or the pages cannot be changed so
 abbrev pub StageCause : {T : Type 0} → Result T StageFault → KnownLayouts → List Change → ℕ → Meaning → Meaning → Type 0
@@ -32,7 +33,7 @@ pub record IsCommitted (changes : List Change) (old_store new_store : Store) (ol
   pub stands : Stands new_store new
   pub layouts : new_store.layouts ≡ old_store.layouts
   pub scans : new_store.scans ≡ old_store.scans
-  pub changed : IsTrue new.tells → MayChange old_store.layouts changes old_store.pages (old.content Pages) → AreChanged old_store.layouts changes (old.content Pages) (new.content Pages)
-  pub pages : IsTrue new.tells → MayChange old_store.layouts changes old_store.pages (old.content Pages)
-      → new_store.pages ≡ old_store.pages + all_needed old_store.layouts changes old_store.pages (old.content Pages)
-  pub sound : IsTrue new.tells → MayChange old_store.layouts changes old_store.pages (old.content Pages) → All PutsReadable changes → ArePages old_store.layouts (new.content Pages)
+  pub changed : IsTrue new.tells → MayChange (known_in old_store.layouts) changes old_store.pages (old.content Pages) → AreChanged (known_in old_store.layouts) changes (old.content Pages) (new.content Pages)
+  pub pages : IsTrue new.tells → MayChange (known_in old_store.layouts) changes old_store.pages (old.content Pages)
+      → new_store.pages ≡ old_store.pages + all_needed (known_in old_store.layouts) changes old_store.pages (old.content Pages)
+  pub sound : IsTrue new.tells → MayChange (known_in old_store.layouts) changes old_store.pages (old.content Pages) → All PutsReadable changes → ArePages (known_in old_store.layouts) (new.content Pages)
