@@ -27,7 +27,8 @@ use Rattle.mt_places.specs.Named.{body_key, is_of, is_put, row_key}
 use Rattle.mt_places.specs.Places.{IsBegun, PlacesState}
 use Rattle.mt_staging.specs.Group.{GroupState, IsGroup, pages_of, used_in}
 use Rattle.mt_chunkstore.specs.Changes.{free_at_start, free_count}
-use Rattle.mt_chunkstore.proofs.Walked.{IsWalked, no_place}
+use Rattle.mt_chunkstore.specs.Walked.{IsWalked}
+use Rattle.mt_chunkstore.proofs.Walked.{no_place}
 
 -- the free positions of a table are as many as its free slots
 free_counted : (sizes : SlotSizes) (area : Area) (table : ℕ) (places : List SlotPlace)

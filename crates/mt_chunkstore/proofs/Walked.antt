@@ -30,14 +30,7 @@ use Rattle.mt_tables.proofs.Seeks.{free_elsewhere, free_in_then, placed_of_table
 use Rattle.mt_tables.proofs.Sizes.{sizes_sound}
 use Rattle.mt_places.specs.Named.{body_key, is_of, is_put, row_key, table_of}
 use Rattle.mt_places.specs.Places.{IsBegun, IsLooked, PlacesState}
-
--- the pages below a number were looked at
-pub record IsWalked (known : KnownLayouts) (area : Area) (n : ℕ) (begun places : PlacesState) : Type 0 where
-  pub rows : places.rows ≡ sought (row_in known) (placed (sizes_of known) area (places_below (sizes_of known) n area)) begun.rows
-  pub bodies : places.bodies ≡ sought body_in (placed (sizes_of known) area (places_below (sizes_of known) n area)) begun.bodies
-  pub free : (table : ℕ) → places.free table ≡ take (begun.wanted table) (free_in table (placed (sizes_of known) area (places_below (sizes_of known) n area)))
-  pub wanted : places.wanted ≡ begun.wanted
-  pub named : places.named ≡ begun.named
+use Rattle.mt_chunkstore.specs.Walked.{IsWalked}
 
 take-none : (n : ℕ) → ◌≡◌ {A = List ℕ} (take n []) []
 take-none zero = refl

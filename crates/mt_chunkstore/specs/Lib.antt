@@ -6,3 +6,4 @@ pub mod LentLaws
 pub mod Opened
 pub mod Staged
 pub mod Standing
+pub mod Walked
