@@ -61,8 +61,8 @@ module _ {V K : Type 0} {R : K → K → Ordering} (o : IsTotalOrder R) (exact :
       let there_read : lookup (is_at (R key)) (as_read R f es) ≡ Some found = lookup-read R f es key ∙ there in
       let some : IsSome (lookup (is_at (R key)) (as_read R f es)) = subst (λ (o : Option (Option ℕ)). IsSome o) (sym there_read) (search rules) in
       placed o exact (as_read R f es) (as_read R f fs) key position found there_read (λ q.
-          ap (λ gs. lookup (is_at (R q)) gs) (ap (as_read R f) written ∙ set-read R f es key position)
-          ∙ lookup-set_value (eq_by_cmp_equiv o) (is_at (R key)) (λ x y same. ap is_eq (o.congr key x y (tie _ same))) q position (as_read R f es) some)
+      ap (λ gs. lookup (is_at (R q)) gs) (ap (as_read R f) written ∙ set-read R f es key position)
+      ∙ lookup-set_value (eq_by_cmp_equiv o) (is_at (R key)) (λ x y same. ap is_eq (o.congr key x y (tie _ same))) q position (as_read R f es) some)
 
   -- nothing is written at one that they lack
   pub read-not_placed : (es : List (V × Option ℕ)) (key : K) (position : Option ℕ) → lookup (is_at (λ v. R key (f v))) es ≡ None

@@ -153,11 +153,7 @@ impl BodyPlaces {
 
 /// Adds tables, of which no body is asked for, until there is one with this number. `AllocError` is
 /// want of memory.
-fn reach_table(
-    alloc: Global,
-    tables: &mut Vec<TableBodies>,
-    table: usize,
-) -> Result<(), AllocError>
+fn reach_table(alloc: Global, tables: &mut Vec<TableBodies>, table: usize) -> Result<(), AllocError>
     ensures reached { OnOk result (table < length tables.new.items) }
     ensures bodies { OnOk result (all_bodies tables.new.items ≡ all_bodies tables.old.items) }
 {

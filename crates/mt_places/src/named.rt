@@ -40,7 +40,10 @@ pub(crate) fn row_key(change: &Change) -> Option<Key>
             row: slot.row,
         }),
         Change::Mark {
-            table, tenant, row, ..
+            table,
+            tenant,
+            row,
+            ..
         } => Some(Key {
             table: *table,
             tenant: *tenant,

@@ -96,13 +96,7 @@ pub(crate) fn look_for_all_rows(
 }
 
 /// The same of a page of a table that is not of the catalogue.
-fn look_for_rows(
-    rows: &mut RowPlaces,
-    layout: &Layout,
-    table: u32,
-    page: u64,
-    bytes: &[u8; 4096],
-)
+fn look_for_rows(rows: &mut RowPlaces, layout: &Layout, table: u32, page: u64, bytes: &[u8; 4096])
     requires layout { IsLayout layout.now }
     requires rows { IsOfRows layout.now.head }
     requires page { page < 2 ^ 28 }
