@@ -1,5 +1,5 @@
 -- What stays of a store and its machine where scans only look.
-use Rattle.std.proofs.Common.{◌≡◌, ℕ, ◌-◌, IsTrue, List, Result, Ok, Err, slice_index, sym, ap, ◌∙◌, subst}
+use Rattle.std.proofs.Common.{◌≡◌, IsTrue, List, Result, Ok, Err, slice_index, sym, ap, ◌∙◌, subst}
 use Rattle.std.specs.Prelude.{IfOk}
 use Rattle.mt_machine.specs.declared.machine.Area.TheVariants.{Pages}
 use Rattle.mt_machine.specs.Meaning.{Disk, Meaning}
@@ -10,7 +10,7 @@ use Rattle.mt_physplan.specs.declared.scan.Scan.{Scan}
 use Rattle.mt_physplan.specs.Content.{scanned}
 use Rattle.mt_physplan.specs.Phys.{Scans, scanned_once}
 use Rattle.mt_tables.specs.Pages.{page_count}
-use Rattle.mt_tables.specs.Rows.{ArePages, KnownLayouts, rows_of, sizes_of}
+use Rattle.mt_tables.specs.Rows.{ArePages, rows_of, sizes_of}
 use Rattle.mt_pages.specs.Control.{IsPageZero}
 use Rattle.mt_directory.specs.Directory.{directory_of}
 use Rattle.mt_directory.specs.Known.{known_in}

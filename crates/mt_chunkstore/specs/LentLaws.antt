@@ -1,11 +1,10 @@
 -- Laws of scans of a lent store.
-use Rattle.std.proofs.Common.{◌≡◌, ℕ, IsTrue, List, refl, ◌∙◌}
+use Rattle.std.proofs.Common.{ℕ, IsTrue, List, refl, ◌∙◌}
 use Rattle.mt_machine.specs.Meaning as machine
 use Rattle.mt_machine.specs.Calls.{Before}
 use Rattle.mt_machine.specs.LeavesLaws.{looks_itself, looks_then}
 use Rattle.mt_chunkstore.specs.declared.store.Store.{Store}
 use Rattle.mt_chunkstore.specs.Lent.{LentScanned}
-use Rattle.mt_chunkstore.specs.Standing.{SameStore}
 
 -- no scan
 pub lent_itself : (store : Store) (m : machine.Meaning) → (IsTrue m.tells_moments → IsTrue m.tells)

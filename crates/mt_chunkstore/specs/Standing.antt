@@ -1,5 +1,5 @@
 -- How a store stands for a machine.
-use Rattle.std.specs.Prelude.{◌≡◌, ℕ, ◌-◌, ◌&&◌, IsTrue, nat_eq, not, List, length, count_by, slice_index}
+use Rattle.std.specs.Prelude.{◌≡◌, ℕ, ◌-◌, ◌&&◌, IsTrue, nat_eq, not, length, count_by, slice_index}
 use Rattle.mt_machine.specs.declared.machine.Area.TheVariants.{Pages}
 use Rattle.mt_machine.specs.Meaning.{Meaning}
 use Rattle.mt_journal.specs.Commits.{StandsFor}

@@ -9,3 +9,6 @@ mod table_scan;
 
 pub use lent::Lent;
 pub use store::Store;
+
+#[cfg(test)]
+mod lending;

@@ -1,5 +1,5 @@
 -- What the pages hold, where they stand for the store.
-use Rattle.std.proofs.Common.{◌≡◌, ◌∙◌, ℕ, IsTrue, List, sym, ap, rules}
+use Rattle.std.proofs.Common.{◌∙◌, ℕ, IsTrue, sym, ap, rules}
 use Rattle.std.specs.FinMap as finite
 use Rattle.mt_machine.specs.declared.machine.Area.TheVariants as areas
 use Rattle.mt_journal.specs.Layout.{Area}
