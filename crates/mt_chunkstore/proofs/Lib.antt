@@ -1,4 +1,4 @@
-pub mod Found
-pub mod Kept
+pub mod AllPages
+pub mod Looking
 pub mod OnePage
 pub mod Slots

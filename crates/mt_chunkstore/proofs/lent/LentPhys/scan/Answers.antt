@@ -1,7 +1,7 @@
 -- A scan only looks.
 use Rattle.std.proofs.Common.{◌∙◌, ap, slice_index}
 use Rattle.mt_chunkstore.specs.Standing.{SameStore}
-use Rattle.mt_chunkstore.proofs.Kept.{scan_looks, stands_looks, stands_same}
+use Rattle.mt_chunkstore.proofs.Looking.{scan_looks, stands_looks, stands_same}
 use Rattle.mt_chunkstore.proofs.lent.LentPhys.scan.Goals as goal
 
 pub returns-clause-ready : goal.returns-clause-ready
