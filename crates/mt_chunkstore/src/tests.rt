@@ -61,7 +61,7 @@ fn pages_are_looked_at(rt: HostRuntime) -> Result<(), Fail> {
     let mut page = [9; PAGE_SIZE];
     store.read_page(&mut machine, 2, &mut page)?;
     assert_eq!(rt; &page[..10], b"\x10\0\0\0\0\0\0\0\x01\0".as_slice());
-    assert_eq!(rt; page[4055..4058], [0, 1, 0]);
+    assert_eq!(rt; &page[4055..4058], [0, 1, 0].as_slice());
     Ok(())
 }
 
