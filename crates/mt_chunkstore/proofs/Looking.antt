@@ -1,47 +1,18 @@
--- What stays of a store and its machine where scans only look.
-use Rattle.std.proofs.Common.{◌≡◌, IsTrue, List, Result, Ok, Err, slice_index, sym, ap, ◌∙◌, subst}
+-- What a scan of a lent store gives, which only looks.
+use Rattle.std.proofs.Common.{◌≡◌, IsTrue, List, Result, Ok, Err, slice_index, ap, ◌∙◌, subst}
 use Rattle.std.specs.Prelude.{IfOk}
 use Rattle.mt_machine.specs.declared.machine.Area.TheVariants.{Pages}
 use Rattle.mt_machine.specs.Meaning.{Disk, Meaning}
 use Rattle.mt_machine.specs.Leaves.{Looks}
-use Rattle.mt_journal.specs.StandsLaws.{stands_after_looks}
 use Rattle.mt_rowfile.specs.declared.slot.SlotRow.{SlotRow}
 use Rattle.mt_physplan.specs.declared.scan.Scan.{Scan}
 use Rattle.mt_physplan.specs.Content.{scanned}
 use Rattle.mt_physplan.specs.Phys.{Scans, scanned_once}
-use Rattle.mt_tables.specs.Pages.{page_count}
-use Rattle.mt_tables.specs.Rows.{ArePages, rows_of, sizes_of}
-use Rattle.mt_pages.specs.Control.{IsPageZero}
-use Rattle.mt_directory.specs.Directory.{directory_of}
+use Rattle.mt_tables.specs.Rows.{ArePages, rows_of}
 use Rattle.mt_directory.specs.Known.{known_in}
 use Rattle.mt_chunkstore.specs.declared.store.Store.{Store}
 use Rattle.mt_chunkstore.specs.Lent.{lent_meaning}
-use Rattle.mt_chunkstore.specs.Standing.{SameStore, Stands, used_in}
-
--- a store stands for its machine after looks
-pub stands_looks : {store : Store} {old new : Meaning} → Stands store old → Looks old new → Stands store new
-stands_looks {store} stands looks = record {
-  journal = stands_after_looks stands.journal looks;
-  pages = record {
-    page_zero = λ tells. subst (λ (content : Disk). IsPageZero (content Pages)) (sym (looks.content tells)) (stands.pages.page_zero (looks.leaves.told tells));
-    counted = λ tells. ap (λ (content : Disk). page_count (content Pages)) (looks.content tells) ∙ stands.pages.counted (looks.leaves.told tells);
-  };
-  sized = stands.sized;
-  known = stands.known;
-  directory = λ tells. stands.directory (looks.leaves.told tells) ∙ ap (λ (content : Disk). directory_of store.pages (content Pages)) (sym (looks.content tells));
-  used = λ tells table. stands.used (looks.leaves.told tells) table ∙ ap (λ (content : Disk). used_in (sizes_of (known_in store.layouts)) table store.pages (content Pages)) (sym (looks.content tells));
-}
-
--- and so does one with other counts of scans
-pub stands_same : {old new : Store} {machine : Meaning} → SameStore old new → Stands old machine → Stands new machine
-stands_same same stands = record {
-  journal = rw same.journal stands.journal;
-  pages = rw same.pages stands.pages;
-  sized = rw (same.directory, same.pages) stands.sized;
-  known = rw same.layouts stands.known;
-  directory = rw (same.directory, same.pages) stands.directory;
-  used = rw (same.used, same.layouts, same.pages) stands.used;
-}
+use Rattle.mt_chunkstore.specs.Standing.{SameStore}
 
 -- a scan that looks leaves the rows, and gives those that it asks for
 pub scan_looks : {E : Type 0} (result : Result (List SlotRow) E) (scan : Scan) (old_store new_store : Store) (old new : Meaning) → SameStore old_store new_store → Looks old new

@@ -1,10 +1,17 @@
 -- What opening a store answers.
-use Rattle.std.specs.Prelude.{◌≡◌, ℕ, IsTrue, Result, Ok, Err, Option, None, Some}
+use Rattle.std.specs.Prelude.{◌≡◌, ℕ, IsTrue, Result, Ok, Err, None}
 use Rattle.mt_machine.specs.declared.machine.Area.TheVariants.{Log, Pages}
 use Rattle.mt_machine.specs.Meaning.{Meaning, Rose}
+use Rattle.mt_journal.specs.declared.journal.RecoverFault.{RecoverFault}
+use Rattle.mt_journal.specs.declared.journal.RecoverFault.TheVariants as recovery
 use Rattle.mt_journal.specs.Chain.{IsDamaged}
 use Rattle.mt_journal.specs.Replay.{Replays}
+use Rattle.mt_pages.specs.declared.pages.PagesFault.{PagesFault}
+use Rattle.mt_pages.specs.declared.pages.PagesFault.TheVariants as page
 use Rattle.mt_pages.specs.Control.{IsPageZero}
+use Rattle.mt_directory.specs.Known.{known_in}
+use Rattle.mt_physplan.specs.declared.phys.PhysFault.{PhysFault}
+use Rattle.mt_physplan.specs.declared.phys.PhysFault.TheVariants as phys
 use Rattle.mt_chunkstore.specs.declared.store.Store.{Store}
 use Rattle.mt_chunkstore.specs.declared.store.StoreFault.{StoreFault}
 use Rattle.mt_chunkstore.specs.declared.store.StoreFault.TheVariants as faults
@@ -14,7 +21,7 @@ use Rattle.mt_chunkstore.specs.Standing.{Stands}
 pub record IsOpened (store : Store) (old new : Meaning) : Type 0 where
   pub stands : Stands store new
   pub replayed : IsTrue new.tells → Replays old.content (new.content Pages)
-  pub layouts : (table : ℕ) → store.layouts table ≡ None
+  pub layouts : (table : ℕ) → known_in store.layouts table ≡ None
 
 -- why it was not opened, as the disk shows it: the log does not decode, or page 0 of what it replays
 -- to is damaged
@@ -32,3 +39,18 @@ StoreCause (Err faults.Disk) before now = Rose before now
 StoreCause (Err faults.Log) before now = now ≡ before
 StoreCause (Err faults.Control) before now = now ≡ before
 StoreCause (Err faults.Memory) before now = now ≡ before
+
+-- why a disk was not opened where its log was not recovered
+abbrev pub log_fault : RecoverFault → StoreFault
+log_fault recovery.Disk = faults.Disk
+log_fault recovery.Damaged = faults.Log
+
+-- where page 0 was not read
+abbrev pub control_fault : PagesFault → StoreFault
+control_fault page.Disk = faults.Disk
+control_fault page.Damaged = faults.Control
+
+-- and where a page was not
+abbrev pub page_fault : PhysFault → StoreFault
+page_fault phys.Disk = faults.Disk
+page_fault phys.Memory = faults.Memory

@@ -1,16 +1,18 @@
 -- How a store stands for a machine.
-use Rattle.std.specs.Prelude.{◌≡◌, ℕ, ◌-◌, ◌&&◌, IsTrue, nat_eq, not, length, count_by, slice_index}
+use Rattle.std.specs.Prelude.{◌≡◌, ℕ, ◌-◌, ◌&&◌, Bool, IsTrue, nat_eq, nat_le, not, is_some, List, length, map, filter, count_by, slice_index}
+use Rattle.std.specs.List.{range_with_len}
 use Rattle.mt_machine.specs.declared.machine.Area.TheVariants.{Pages}
 use Rattle.mt_machine.specs.Meaning.{Meaning}
 use Rattle.mt_journal.specs.Commits.{StandsFor}
 use Rattle.mt_journal.specs.Layout.{Area}
 use Rattle.mt_rowfile.specs.Pages.{is_free}
 use Rattle.mt_tables.specs.Pages.{SlotSizes}
-use Rattle.mt_tables.specs.Rows.{AreKnown, sizes_of}
+use Rattle.mt_tables.specs.Rows.{AreKnown, layout_of, sizes_of}
 use Rattle.mt_tables.specs.Tables.{slots_below}
 use Rattle.mt_pages.specs.Standing.{Counts}
 use Rattle.mt_directory.specs.Directory.{directory_of}
 use Rattle.mt_directory.specs.Known.{known_in}
+use Rattle.mt_chunkstore.specs.declared.sizes.TableSize.{TableSize}
 use Rattle.mt_chunkstore.specs.declared.store.Store.{Store}
 
 -- how many slots of a table are in use in the pages below a number
@@ -34,3 +36,15 @@ pub record SameStore (old new : Store) : Type 0 where
   pub layouts : new.layouts ≡ old.layouts
   pub directory : new.directory ≡ old.directory
   pub used : new.used ≡ old.used
+
+-- whether a table has a page, and a layout that is known
+abbrev pub has_size : Store → ℕ → Bool
+has_size store table = is_some (layout_of (known_in store.layouts) table) && nat_le 1 (count_by (λ t. nat_eq t table) store.directory.tables)
+
+-- a table, its pages and its slots in use
+abbrev pub size_in : Store → ℕ → TableSize
+size_in store table = record { table = table; pages = count_by (λ t. nat_eq t table) store.directory.tables; used = slice_index store.used table }
+
+-- those of the tables that have a page and a layout that is known, ascending
+abbrev pub sizes_in : Store → List TableSize
+sizes_in store = map (size_in store) (filter (has_size store) (range_with_len 1 31))

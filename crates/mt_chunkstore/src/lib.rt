@@ -4,11 +4,16 @@
 
 mod lent;
 mod page_scan;
+mod sizes;
 mod store;
+mod survey;
 mod table_scan;
 
 pub use lent::Lent;
-pub use store::Store;
+pub use sizes::{Sizes, TableSize};
+pub use store::{Store, StoreFault};
 
 #[cfg(test)]
 mod lending;
+#[cfg(test)]
+mod tests;

@@ -6,5 +6,5 @@ use Rattle.mt_directory.proofs.layouts.first_layouts.Given as goal
 abbrev pub invariant-loop-table : goal.invariant-loop-table
 invariant-loop-table l = record {
   size : length l.each.items ≡ l.table;
-  each : (t : ℕ) → t < l.table → get_or l.each.items t None ≡ layout_of (λ table. None) t
+  each : (t : ℕ) → t < l.table → get_or l.each.items t None ≡ layout_of (λ table. None) t;
 }
