@@ -1,5 +1,5 @@
 -- What a store's standing for a machine outlasts.
-use Rattle.std.proofs.Common.{◌≡◌, ◌≢◌, ℕ, ◌+◌, ◌-◌, ◌<◌, ◌≤◌, IsTrue, IfSome, Bool, true, false, cond, nat_eq, nat_le, List, length, slice_index, slice_set, Option, None, Some, refl, sym, ap, subst, ◌∙◌, arith}
+use Rattle.std.proofs.Common.{◌≡◌, ◌≢◌, ℕ, ◌≤◌, IsTrue, IfSome, Bool, true, false, cond, nat_eq, List, length, slice_index, slice_set, Option, Some, refl, sym, ap, subst, ◌∙◌, arith}
 use Rattle.std.proofs.lemmas.Bool.Decides.{nat_tests}
 use Rattle.std.proofs.lemmas.List.{get_or-set_same, get_or-set_other}
 use Rattle.mt_machine.specs.declared.machine.Area.TheVariants.{Pages}
@@ -26,31 +26,29 @@ counts_looked {count} counts looks = record {
   counted = λ tells. ap (λ (d : Disk). page_count (d Pages)) (looks.content tells) ∙ counts.counted (looks.leaves.told tells);
 }
 
--- a store stands for its machine after looks
-pub stands_looks : {store : Store} {old new : Meaning} → Stands store old → Looks old new → Stands store new
-stands_looks {store} stands looks = record {
+-- a stretch that changes neither area leaves the store standing
+stands_still : (store : Store) (old new : Meaning) → Stands store old → Looks old new → Stands store new
+stands_still store old new stands looks = record {
   journal = stands_after_looks stands.journal looks;
   pages = counts_looked stands.pages looks;
   sized = stands.sized;
   known = stands.known;
-  directory = λ tells. stands.directory (looks.leaves.told tells) ∙ ap (λ (content : Disk). directory_of store.pages (content Pages)) (sym (looks.content tells));
-  used = λ tells table. stands.used (looks.leaves.told tells) table ∙ ap (λ (content : Disk). used_in (sizes_of (known_in store.layouts)) table store.pages (content Pages)) (sym (looks.content tells));
+  directory = λ tells. stands.directory (looks.leaves.told tells) ∙ ap (λ (d : Disk). directory_of store.pages (d Pages)) (sym (looks.content tells));
+  used = λ tells table. stands.used (looks.leaves.told tells) table ∙ ap (λ (d : Disk). used_in (sizes_of (known_in store.layouts)) table store.pages (d Pages)) (sym (looks.content tells));
 }
 
--- and so does one with other counts of scans
-pub stands_same : {old new : Store} {machine : Meaning} → SameStore old new → Stands old machine → Stands new machine
-stands_same same stands = record {
-  journal = rw same.journal stands.journal;
-  pages = rw same.pages stands.pages;
-  sized = rw (same.directory, same.pages) stands.sized;
-  known = rw same.layouts stands.known;
-  directory = rw (same.directory, same.pages) stands.directory;
-  used = rw (same.used, same.layouts, same.pages) stands.used;
-}
-
--- both together
+-- and so does one that counts scans
 pub stands_looked : (store after : Store) (old new : Meaning) → SameStore store after → Stands store old → Looks old new → Stands after new
-stands_looked store after old new same before looks = stands_same same (stands_looks before looks)
+stands_looked store after old new same before looks =
+    let stands = stands_still store old new before looks in
+    record {
+      journal = subst (λ tail. StandsFor tail new) (sym same.journal) stands.journal;
+      pages = subst (λ count. Counts count new) (sym same.pages) stands.pages;
+      sized = rw (same.directory, same.pages) stands.sized;
+      known = rw same.layouts stands.known;
+      directory = λ tells. rw (same.directory, same.pages) (stands.directory tells);
+      used = λ tells table. rw (same.used, same.layouts, same.pages) (stands.used tells table);
+    }
 
 -- the layouts with one of a conventional table more
 known_with : (known : KnownLayouts) (table : ℕ) (layout : Layout) → AreKnown known → layout.head ≡ Conventional → IsLayout layout → AreKnown (with_layout table layout known)
@@ -73,7 +71,7 @@ pub stands_with : (store : Store) (old new : Meaning) (table : ℕ) (layout : La
     → (IsTrue new.tells → (known : KnownLayouts) → layout_of known table ≡ Some layout → counted ≡ used_in (sizes_of known) table store.pages (new.content Pages))
     → Stands (record { journal = store.journal; pages = store.pages; layouts = layouts; directory = store.directory; used = slice_set store.used table counted; scans = store.scans }) new
 stands_with store old new table layout layouts counted before looks size from upto head sound is counts =
-    let stands = stands_looks before looks in
+    let stands = stands_still store old new before looks in
     let known = known_in store.layouts in
     record {
       journal = stands.journal;

@@ -1,9 +1,9 @@
+pub mod AllPages
 pub mod Begun
 pub mod Chosen
-pub mod Found
 pub mod InUse
 pub mod Kept
-pub mod Lending
+pub mod Looking
 pub mod Needed
 pub mod OnePage
 pub mod Opening

@@ -1,22 +1,20 @@
 -- One page more of a scan's walk.
-use Rattle.std.proofs.Common.{◌≡◌, ℕ, zero, suc, ◌+◌, ◌-◌, ◌*◌, ◌^◌, ◌<◌, ◌≤◌, Bool, true, false, nat_eq, if◌then◌else◌, ◌&&◌, min, List, [], ◌∷◌, ◌++◌, map, drop, slice_index, Option, Some, refl, sym, ap, ◌∙◌, subst, All, filter_map, arith}
+use Rattle.std.proofs.Common.{◌≡◌, ℕ, zero, suc, ◌+◌, ◌-◌, ◌*◌, ◌<◌, ◌≤◌, true, false, nat_eq, List, map, drop, slice_index, Some, refl, sym, ap, ◌∙◌, subst, All, arith}
 use Rattle.std.proofs.lemmas.Bool.Decides.{nat_tests}
 use Rattle.std.proofs.lemmas.List.FromFn.{get_or-map-range_with_len}
-use Rattle.std.specs.FinMap as finite
 use Rattle.mt_machine.specs.Meaning.{Rose}
 use Rattle.mt_journal.specs.Layout.{Area}
 use Rattle.mt_rowfile.specs.declared.layout.Layout.{Layout}
 use Rattle.mt_rowfile.specs.Pages.{slots_in, slots_of_page}
-use Rattle.mt_rowfile.specs.Slots.{IsSlot}
 use Rattle.mt_physplan.specs.declared.key.Key.{Key}
 use Rattle.mt_physplan.specs.declared.scan.Scan.{Scan}
 use Rattle.mt_physplan.specs.Content.{Content, in_scan}
-use Rattle.mt_tables.specs.Pages.{bytes_at, page_count, page_places, table_at}
-use Rattle.mt_tables.specs.Rows.{ArePages, KnownLayouts, count_by, layout_of, row_in, sizes_of, width_by}
-use Rattle.mt_tables.specs.Tables.{TableSlot, slot_at, slots_below}
+use Rattle.mt_tables.specs.Pages.{bytes_at, table_at}
+use Rattle.mt_tables.specs.Rows.{KnownLayouts, count_by, layout_of, row_in, sizes_of, width_by}
+use Rattle.mt_tables.specs.Tables.{TableSlot, slot_at}
 use Rattle.mt_tables.proofs.PageSlots.{page_slots, pages_slots, slots_of_table, walk_elsewhere, walk_then}
 use Rattle.mt_tables.proofs.Places.{pages_places}
-use Rattle.mt_tables.proofs.Readings.{readable_page, row_of_table}
+use Rattle.mt_tables.proofs.Readings.{row_of_table}
 use Rattle.mt_tables.proofs.Sizes.{sizes_sound}
 use Rattle.mt_directory.specs.Directory.{directory_of, listed_table}
 use Rattle.mt_chunkstore.specs.Asking.{slots_on, with_asked}
@@ -76,17 +74,13 @@ elsewhere scan known area n found other =
     not_asked scan key other = rw other refl
 
 -- once a page was looked at
-pub page_passed : (scan : Scan) (known : KnownLayouts) (area : Area) (n left more : ℕ) (found new all : Content) → left ≡ suc more → with_asked scan known (slots_from known area n left) found ≡ all
-    → new ≡ with_asked scan known (slots_on known area n) found → with_asked scan known (slots_from known area (n + 1) more) new ≡ all
-page_passed scan known area n left more found new all is before adds =
-    ap (with_asked scan known (slots_from known area (n + 1) more)) adds
+pub page_passed : (scan : Scan) (known : KnownLayouts) (area here : Area) (n left more : ℕ) (found new all : Content) → here ≡ area → left ≡ suc more → with_asked scan known (slots_from known area n left) found ≡ all
+    → new ≡ with_asked scan known (slots_on known here n) found → with_asked scan known (slots_from known area (n + 1) more) new ≡ all
+page_passed scan known area here n left more found new all same is before adds =
+    ap (with_asked scan known (slots_from known area (n + 1) more)) (adds ∙ ap (λ (a : Area). with_asked scan known (slots_on known a n) found) same)
     ∙ sym (walk_then (row_in known) (in_scan scan) (slots_on known area n) (slots_from known area (n + 1) more) found)
     ∙ ap (λ slots. with_asked scan known slots found) (sym (pages_slots (sizes_of known) area n more))
     ∙ ap (λ k. with_asked scan known (slots_from known area n k) found) (sym is) ∙ before
-
--- and at last no page is left
-pub no_page : (scan : Scan) (known : KnownLayouts) (area : Area) (n left : ℕ) (found all : Content) → left ≡ 0 → with_asked scan known (slots_from known area n left) found ≡ all → found ≡ all
-no_page scan known area n left found all none is = ap (λ k. with_asked scan known (slots_from known area n k) found) (sym none) ∙ is
 
 -- a fault that was counted later was counted since earlier
 pub rose_since : (first second third : ℕ) → first ≤ second → Rose second third → Rose first third

@@ -218,7 +218,7 @@ impl Store {
         requires head { layout.head ≡ Conventional }
         requires sound { IsLayout layout }
         requires new { (known_in self.old.layouts table ≡ None) ⊎ (count_by (nat_eq table) self.old.directory.tables ≡ 0) }
-        ensures stands { OnOk result (Stands self.new (M.meaning m.new)) }
+        ensures stands { Stands self.new (M.meaning m.new) }
         ensures layouts { OnOk result (known_in self.new.layouts ≡ with_layout table layout (known_in self.old.layouts)) }
         ensures journal { self.new.journal ≡ self.old.journal }
         ensures pages { self.new.pages ≡ self.old.pages }

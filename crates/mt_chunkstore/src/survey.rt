@@ -116,7 +116,8 @@ pub(crate) fn count_used<M: Machine>(
 {
     let mut used = 0;
     let mut page = [0; PAGE_SIZE];
-    for n in 1..pages.count() {
+    let count = pages.count();
+    for n in 1..count {
         if directory.table(n) == table {
             pages.read(m, n, &mut page)?;
             used += used_slots(layout, &page);

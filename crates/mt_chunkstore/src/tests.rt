@@ -1,8 +1,13 @@
+ghost use Rattle.std.specs.Prelude.{◌≡◌, IfOk};
+ghost use Rattle.mt_rowfile.specs.declared.layout.Head.TheVariants.{Conventional};
+ghost use Rattle.mt_rowfile.specs.Layouts.{IsLayout};
+
 use crate::{Store, StoreFault, TableSize};
 use mt_codec::FieldKind;
 use mt_list::List;
 use mt_machine::{Area, Bytes, CallKind, FailList, Failed, Machine, MemMachine, SteadyMachine};
 use mt_pages::PAGE_SIZE;
+use mt_physplan::PhysFault;
 use mt_rowfile::{Head, Layout};
 use std::alloc::{AllocError, Global};
 use std::test::Fail;
@@ -61,21 +66,35 @@ fn pages_are_looked_at(rt: HostRuntime) -> Result<(), Fail> {
     let mut page = [9; PAGE_SIZE];
     store.read_page(&mut machine, 2, &mut page)?;
     assert_eq!(rt; &page[..10], b"\x10\0\0\0\0\0\0\0\x01\0".as_slice());
-    assert_eq!(rt; page[4055..4058], [0, 1, 0]);
+    assert_eq!(rt; &page[4055..4058], [0, 1, 0].as_slice());
     Ok(())
 }
 
+fn one_integer(alloc: Global) -> Result<Layout, AllocError>
+    ensures head { IfOk result (λ layout. layout.head ≡ Conventional) }
+    ensures sound { IfOk result (λ layout. IsLayout layout) }
+{
+    Ok(Layout {
+        head: Head::Conventional,
+        kinds: List::from_vec(Vec::from_slice(alloc, &[FieldKind::Int])?),
+    })
+}
+
+/// The read behind those of `load` is that of the page of table 16.
 #[test]
 fn a_layout_counts_the_slots_of_its_table(rt: HostRuntime) -> Result<(), Fail> {
     let alloc = rt.alloc();
-    let mut machine = SteadyMachine::new(alloc);
+    let mut fails = FailList::new(alloc);
+    fails.push(CallKind::Read, 5)?;
+    let mut machine = MemMachine::new(alloc, fails);
     lay_pages(&mut machine)?;
     let mut store = Store::load(&mut machine, alloc)?;
-    let layout = Layout {
-        head: Head::Conventional,
-        kinds: List::from_vec(Vec::from_slice(alloc, &[FieldKind::Int])?),
+    let Err(fault) = store.add_layout(&mut machine, 16, one_integer(alloc)?) else {
+        return Err("no fault".into());
     };
-    store.add_layout(&mut machine, 16, layout)?;
+    assert_eq!(rt; fault, PhysFault::Disk);
+    assert_eq!(rt; store.sizes(alloc)?.as_slice(), [CHUNKS].as_slice());
+    store.add_layout(&mut machine, 16, one_integer(alloc)?)?;
     let rows = TableSize {
         table: 16,
         pages: 1,

@@ -1,5 +1,5 @@
 -- What the pages hold, where they stand for the store.
-use Rattle.std.proofs.Common.{◌≡◌, ◌∙◌, ℕ, IsTrue, List, sym, ap, rules}
+use Rattle.std.proofs.Common.{◌∙◌, ℕ, IsTrue, sym, ap, rules}
 use Rattle.std.specs.FinMap as finite
 use Rattle.mt_machine.specs.declared.machine.Area.TheVariants as areas
 use Rattle.mt_journal.specs.Layout.{Area}
@@ -8,7 +8,7 @@ use Rattle.mt_tables.specs.Rows.{KnownLayouts, sizes_of}
 use Rattle.mt_tables.specs.Tables.{slots_below}
 use Rattle.mt_directory.specs.Known.{known_in}
 use Rattle.mt_chunkstore.specs.Asking.{with_asked}
-use Rattle.mt_chunkstore.proofs.Found.{nothing_scanned, rows_found}
+use Rattle.mt_chunkstore.proofs.AllPages.{nothing_scanned, rows_found}
 use Rattle.mt_chunkstore.proofs.lent.look.Goals as goal
 
 pub returns-in_default-clause-rows : goal.returns-in_default-clause-rows

@@ -1,5 +1,5 @@
 -- Page by page, those of the table.
-use Rattle.std.proofs.Common.{◌≡◌, ◌+◌, ◌-◌, ◌<◌, ◌≤◌, ◌*◌, refl, sym, ◌∙◌, arith}
+use Rattle.std.proofs.Common.{◌<◌, sym, ◌∙◌, arith}
 use Rattle.mt_machine.specs.LeavesLaws.{looks_then}
 use Rattle.mt_chunkstore.proofs.Surveying.{counted_elsewhere, counted_here}
 use Rattle.mt_chunkstore.proofs.survey.count_used.Goals as goal
@@ -11,7 +11,7 @@ loop-n-preserved g c =
     let before = c.loop-n.invariant in
     let n = c.loop-n.n in
     let table = c.args.table in
-    let within : n < c.args.pages.now = (let test = c.loop-n-test.true in let all = c.count-n-end.ensures.count in omega arith) in
+    let within : n < c.args.pages.now = (let test = c.loop-n-test.true in let all = c.count-count.ensures.count in omega arith) in
     elim c.if-table.branch [
       | then-table+in_ok-read w ↦
           record {

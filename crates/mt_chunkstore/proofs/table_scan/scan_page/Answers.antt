@@ -1,5 +1,5 @@
 -- The page is the bytes of the area.
-use Rattle.std.proofs.Common.{◌≡◌, ◌*◌, ◌∙◌, IsTrue, List, All, Result, Ok, Err, sym, ap, subst, map}
+use Rattle.std.proofs.Common.{◌∙◌, All, Result, Ok, Err, sym, ap, subst, map}
 use Rattle.std.specs.Prelude.{OnOk}
 use Rattle.mt_machine.specs.declared.machine.Area.TheVariants as areas
 use Rattle.mt_rowfile.specs.Pages.{slots_of_page}

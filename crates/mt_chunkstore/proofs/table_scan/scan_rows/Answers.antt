@@ -1,5 +1,5 @@
 -- One page after another.
-use Rattle.std.proofs.Common.{◌≡◌, ℕ, suc, ◌+◌, ◌-◌, ◌*◌, ◌<◌, ◌∙◌, IsTrue, All, Some, sym, ap, subst, rules, arith}
+use Rattle.std.proofs.Common.{◌≡◌, suc, ◌+◌, ◌-◌, ◌*◌, ◌<◌, ◌∙◌, IsTrue, All, Some, refl, sym, ap, subst, rules, arith}
 use Rattle.mt_machine.specs.declared.machine.Area.TheVariants as areas
 use Rattle.mt_machine.specs.LeavesLaws.{looks_then}
 use Rattle.mt_journal.specs.Layout.{Area}
@@ -8,7 +8,6 @@ use Rattle.mt_rowfile.specs.Slots.{IsSlot}
 use Rattle.mt_tables.specs.Pages.{bytes_at, table_at}
 use Rattle.mt_tables.specs.Rows.{layout_of}
 use Rattle.mt_tables.proofs.Readings.{readable_page}
-use Rattle.mt_chunkstore.specs.Asking.{slots_on, with_asked}
 use Rattle.mt_chunkstore.proofs.OnePage.{elsewhere, layout_some, of_another, of_its_table, page_passed, rose_since}
 use Rattle.mt_chunkstore.proofs.table_scan.scan_rows.Goals as goal
 use Rattle.mt_chunkstore.proofs.table_scan.scan_rows.Goals.{then-is_of_table+in_ok-scan_page, else-is_of_table}
@@ -41,24 +40,24 @@ loop-n-preserved g c =
     let before = c.loop-n.invariant in
     elim c.if-is_of_table.branch [
       | then-is_of_table+in_ok-scan_page w ↦ rw (w.m-is, w.pages-is, w.found-is) (record {
-          same = w.scan_page.ensures.same ∙ before.same;
-          found = λ tells listed known is.
-              let told : IsTrue (meaning c.loop-n.m).tells = w.scan_page.ensures.looks.leaves.told tells in
-              let same : (meaning c.loop-n.m).content areas.Pages ≡ area = ap (λ content. content areas.Pages) (before.looks.content told) in
-              let of_table : table_at area n ≡ c.args.scan.now.table =
-              of_its_table area c.args.directory.now.tables c.args.pages.now n c.args.scan.now.table listed c.loop-n.auto.n within (layout_some known c.args.scan.now.table layout is) (sym c.is_of_table.ensures ∙ w.if-is_of_table.true) in
-              page_passed c.args.scan.now known area n left more c.loop-n.found w.scan_page.new.found _ fewer (before.found told listed known is)
-              (w.in_ok-scan_page.ensures.ok tells (ap (λ (a : Area). table_at a n) same ∙ of_table) known is ∙ ap (λ (a : Area). with_asked c.args.scan.now known (slots_on known a n) c.loop-n.found) same);
-          looks = looks_then before.looks w.scan_page.ensures.looks;
-          beneath = g.met.M.Machine.beneath_both c.args.m.now c.loop-n.m w.scan_page.new.m before.beneath w.scan_page.ensures.beneath;
-        })
+        same = w.scan_page.ensures.same ∙ before.same;
+        found = λ tells listed known is.
+            let told : IsTrue (meaning c.loop-n.m).tells = w.scan_page.ensures.looks.leaves.told tells in
+            let same : (meaning c.loop-n.m).content areas.Pages ≡ area = ap (λ content. content areas.Pages) (before.looks.content told) in
+            let of_table : table_at area n ≡ c.args.scan.now.table =
+            of_its_table area c.args.directory.now.tables c.args.pages.now n c.args.scan.now.table listed c.loop-n.auto.n within (layout_some known c.args.scan.now.table layout is) (sym c.is_of_table.ensures ∙ w.if-is_of_table.true) in
+            page_passed c.args.scan.now known area ((meaning c.loop-n.m).content areas.Pages) n left more c.loop-n.found w.scan_page.new.found _ same fewer (before.found told listed known is)
+            (w.in_ok-scan_page.ensures.ok tells (ap (λ (a : Area). table_at a n) same ∙ of_table) known is);
+        looks = looks_then before.looks w.scan_page.ensures.looks;
+        beneath = g.met.M.Machine.beneath_both c.args.m.now c.loop-n.m w.scan_page.new.m before.beneath w.scan_page.ensures.beneath;
+      })
       | else-is_of_table w ↦ rw (w.m-is, w.pages-is, w.found-is) (record {
-          same = before.same;
-          found = λ tells listed known is.
-              page_passed c.args.scan.now known area n left more c.loop-n.found c.loop-n.found _ fewer (before.found tells listed known is)
-              (sym (elsewhere c.args.scan.now known area n c.loop-n.found
-              (of_another area c.args.directory.now.tables c.args.pages.now n c.args.scan.now.table listed c.loop-n.auto.n within c.requires.table (sym c.is_of_table.ensures ∙ w.if-is_of_table.false))));
-          looks = before.looks;
-          beneath = before.beneath;
-        })
+        same = before.same;
+        found = λ tells listed known is.
+            page_passed c.args.scan.now known area area n left more c.loop-n.found c.loop-n.found _ refl fewer (before.found tells listed known is)
+            (sym (elsewhere c.args.scan.now known area n c.loop-n.found
+            (of_another area c.args.directory.now.tables c.args.pages.now n c.args.scan.now.table listed c.loop-n.auto.n within c.requires.table (sym c.is_of_table.ensures ∙ w.if-is_of_table.false))));
+        looks = before.looks;
+        beneath = before.beneath;
+      })
     ]

@@ -1,5 +1,5 @@
--- A scan of a store gives what the pages hold.
-use Rattle.std.proofs.Common.{◌≡◌, IsTrue, List, Result, Ok, Err, slice_index, ap, subst, ◌∙◌}
+-- What a scan of a lent store gives, which only looks.
+use Rattle.std.proofs.Common.{◌≡◌, IsTrue, List, Result, Ok, Err, slice_index, ap, ◌∙◌, subst}
 use Rattle.std.specs.Prelude.{IfOk}
 use Rattle.mt_machine.specs.declared.machine.Area.TheVariants.{Pages}
 use Rattle.mt_machine.specs.Meaning.{Disk, Meaning}
