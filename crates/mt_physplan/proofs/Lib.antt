@@ -1,4 +1,4 @@
 pub mod Keys
 pub mod Maps
 pub mod Examples
-pub mod Counts
+pub mod Counted

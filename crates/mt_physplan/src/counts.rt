@@ -20,7 +20,7 @@ impl ScanCounts {
     }
 
     /// Counts one scan of a table. A table with a number above 31 has no count.
-    #[tactic(auto, using(crate::proofs::Counts::counted_once))]
+    #[tactic(auto, using(crate::proofs::Counted::counted_once))]
     pub fn add(&mut self, table: u32)
         ensures { slice_index self.new.each ≡ scanned_once table (slice_index self.old.each) }
     {

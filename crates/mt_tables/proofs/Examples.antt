@@ -1,18 +1,16 @@
 -- Worked examples of the definitions: an empty disk, and one on which table 16, with a layout of one
 -- integer, has one row.
-use Rattle.std.proofs.Common.{◌≡◌, ℕ, ◌==◌, if◌then◌else◌, List, [], ◌∷◌, Option, Some, None, length, take, refl, ap, pos}
+use Rattle.std.proofs.Common.{◌≡◌, ◌==◌, if◌then◌else◌, [], ◌∷◌, Some, None, length, refl, pos}
 use Rattle.std.specs.FinMap as finite
 use Rattle.mt_codec.specs.declared.field.FieldKind.TheVariants.{Int}
 use Rattle.mt_value.specs.declared.value.Value.TheVariants as value
 use Rattle.mt_journal.specs.Layout.{Area}
 use Rattle.mt_rowfile.specs.declared.layout.Head.TheVariants.{Conventional}
-use Rattle.mt_rowfile.specs.declared.layout.Layout.{Layout}
 use Rattle.mt_physplan.specs.declared.key.Cell.{Cell}
 use Rattle.mt_physplan.specs.declared.key.Key.{Key}
-use Rattle.mt_physplan.specs.Keys.{key_cmp}
 use Rattle.mt_tables.specs.Pages.{bytes_at, page_count, places_below, table_at}
-use Rattle.mt_tables.specs.Rows.{KnownLayouts, body_in, catalogue_of, row_in, rows_of, sizes_of}
-use Rattle.mt_tables.specs.Tables.{entries_of, overwritten, slots_below}
+use Rattle.mt_tables.specs.Rows.{KnownLayouts, catalogue_of, rows_of, sizes_of}
+use Rattle.mt_tables.specs.Tables.{overwritten}
 
 -- table 16 has rows of one integer
 abbrev known : KnownLayouts

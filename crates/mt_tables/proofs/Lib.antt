@@ -5,6 +5,8 @@ pub mod OneSlot
 pub mod PageSlots
 pub mod Places
 pub mod Plans
+pub mod Readings
+pub mod Seeks
 pub mod Sizes
 pub mod Steps
 pub mod Walks

@@ -1,5 +1,6 @@
 -- What the slots say by key, where one of them is replaced.
-use Rattle.std.proofs.Common.{◌≡◌, ℕ, zero, suc, ◌<◌, Bool, true, false, cond, List, [], ◌∷◌, ◌++◌, length, get_or, set, Option, None, Some, refl, sym, ap, ◌∙◌, subst, arith}
+use Rattle.std.proofs.Common.{◌≡◌, ℕ, zero, suc, ◌<◌, Bool, true, false, cond, List, [], ◌∷◌, ◌++◌, length, get_or, set, Option, None, Some, refl, sym, ap, ◌∙◌, subst, arith, filter_map}
+use Rattle.std.specs.List.{cons_option}
 use Rattle.std.specs.declared.cmp.Ordering.{Ordering}
 use Rattle.std.specs.declared.cmp.Ordering.TheVariants.{Less, Equal, Greater}
 use Rattle.std.specs.Ordering.{eq_by_cmp, is_eq}
@@ -7,7 +8,6 @@ use Rattle.std.specs.Cmp.{IsTotalOrder}
 use Rattle.std.proofs.lemmas.Cmp.{eq_by_cmp_equiv}
 use Rattle.std.specs.FinMap as finite
 use Rattle.std.specs.FinMap.{find}
-use Rattle.mt_tables.specs.Tables.{entries_of, with_entry}
 use Rattle.mt_tables.specs.Unique.{AreUnique, Misses, NoneSays, NoneSaysIts}
 
 -- an entry with this key, or none
@@ -61,7 +61,7 @@ module _ {K V : Type 0} {R : K → K → Ordering} (o : IsTotalOrder R) where
   find-tied q k tied (e ∷ es) = rw ((eq_by_cmp_equiv o).congr q k e.0 tied, find-tied q k tied es) refl
 
   replaced_first : (k q : K) (old new : Option (K × V)) (es : List (K × V)) → HasKey R k old → HasKey R k new → find R k es ≡ None
-      → find R q (with_entry new es) ≡ cond (eq_by_cmp R q k) (value_in new) (find R q (with_entry old es))
+      → find R q (cons_option new es) ≡ cond (eq_by_cmp R q k) (value_in new) (find R q (cons_option old es))
   replaced_first k q None None es had has none = none_if (eq_by_cmp R q k) (find R q es) (λ tied. find-tied q k tied es ∙ none)
   replaced_first k q None (Some n) es had has none = rw (same_test o k n.0 q has) refl
   replaced_first k q (Some p) None es had has none =
@@ -70,7 +70,7 @@ module _ {K V : Type 0} {R : K → K → Ordering} (o : IsTotalOrder R) where
       rw (same_test o k n.0 q has, same_test o k p.0 q had) (same_branch (eq_by_cmp R q k) (Some n.1) (Some p.1) (find R q es))
 
   replaced_later : (k q : K) (e : Option (K × V)) (v : Option V) (olds news : List (K × V)) → Misses R k e → find R q news ≡ cond (eq_by_cmp R q k) v (find R q olds)
-      → find R q (with_entry e news) ≡ cond (eq_by_cmp R q k) v (find R q (with_entry e olds))
+      → find R q (cons_option e news) ≡ cond (eq_by_cmp R q k) v (find R q (cons_option e olds))
   replaced_later k q None v olds news misses h = h
   replaced_later k q (Some e) v olds news misses h = rw h (either_branch (eq_by_cmp R q e.0) (eq_by_cmp R q k) (Some e.1) v (find R q olds)
       (λ a b. let c = (eq_by_cmp_equiv o).congr q k e.0 b in cc))
@@ -81,64 +81,64 @@ module _ {K V : Type 0} {R : K → K → Ordering} (o : IsTotalOrder R) where
 
 module _ {S E : Type 0} (read : S → Option E) where
   -- slots that say nothing, at the end
-  pub free_behind : (slots more : List S) → entries_of read more ≡ [] → entries_of read (slots ++ more) ≡ entries_of read slots
+  pub free_behind : (slots more : List S) → filter_map read more ≡ [] → filter_map read (slots ++ more) ≡ filter_map read slots
   free_behind [] more free = free
-  free_behind (slot ∷ slots) more free = ap (with_entry (read slot)) (free_behind slots more free)
+  free_behind (slot ∷ slots) more free = ap (cons_option (read slot)) (free_behind slots more free)
 
   -- a slot that said nothing and says nothing
-  pub silent_set : (slots : List S) (i : ℕ) (new d : S) → read (get_or slots i d) ≡ None → read new ≡ None → entries_of read (set slots i new) ≡ entries_of read slots
+  pub silent_set : (slots : List S) (i : ℕ) (new d : S) → read (get_or slots i d) ≡ None → read new ≡ None → filter_map read (set slots i new) ≡ filter_map read slots
   silent_set [] i new d old is = refl
   silent_set (slot ∷ slots) zero new d old is = rw (old, is) refl
-  silent_set (slot ∷ slots) (suc i) new d old is = ap (with_entry (read slot)) (silent_set slots i new d old is)
+  silent_set (slot ∷ slots) (suc i) new d old is = ap (cons_option (read slot)) (silent_set slots i new d old is)
 
 module _ {S K V : Type 0} {R : K → K → Ordering} (o : IsTotalOrder R) (read : S → Option (K × V)) where
   -- what no slot says is not found
-  pub none_found : (k : K) (slots : List S) → NoneSays R read k slots → find R k (entries_of read slots) ≡ None
+  pub none_found : (k : K) (slots : List S) → NoneSays R read k slots → find R k (filter_map read slots) ≡ None
   none_found k [] none = refl
   none_found k (slot ∷ slots) none = by (read slot) none.0 (none_found k slots none.1)
     where
-      by : (e : Option (K × V)) → Misses R k e → find R k (entries_of read slots) ≡ None → find R k (with_entry e (entries_of read slots)) ≡ None
+      by : (e : Option (K × V)) → Misses R k e → find R k (filter_map read slots) ≡ None → find R k (cons_option e (filter_map read slots)) ≡ None
       by None misses h = h
       by (Some e) misses h = rw misses h
 
   -- and what is not found no slot says
-  pub none_says : (k : K) (slots : List S) → find R k (entries_of read slots) ≡ None → NoneSays R read k slots
+  pub none_says : (k : K) (slots : List S) → find R k (filter_map read slots) ≡ None → NoneSays R read k slots
   none_says k [] none = tt
   none_says k (slot ∷ slots) none = by (read slot) none (none_says k slots)
     where
-      by : (e : Option (K × V)) → find R k (with_entry e (entries_of read slots)) ≡ None → (find R k (entries_of read slots) ≡ None → NoneSays R read k slots) → Misses R k e × NoneSays R read k slots
+      by : (e : Option (K × V)) → find R k (cons_option e (filter_map read slots)) ≡ None → (find R k (filter_map read slots) ≡ None → NoneSays R read k slots) → Misses R k e × NoneSays R read k slots
       by None none rest = (tt, rest none)
       by (Some e) none rest = inner (eq_by_cmp R k e.0) refl none
         where
-          inner : (b : Bool) → eq_by_cmp R k e.0 ≡ b → cond b (Some e.1) (find R k (entries_of read slots)) ≡ None → (eq_by_cmp R k e.0 ≡ false) × NoneSays R read k slots
+          inner : (b : Bool) → eq_by_cmp R k e.0 ≡ b → cond b (Some e.1) (find R k (filter_map read slots)) ≡ None → (eq_by_cmp R k e.0 ≡ false) × NoneSays R read k slots
           inner true t is = cc
           inner false t is = (t, rest is)
 
   -- the i-th slot is replaced by one that says the same key or nothing
   pub found_after : (k q : K) (slot : S) (i : ℕ) (slots : List S) → OnlyAt R read k i slots → HasKey R k (read slot)
-      → find R q (entries_of read (set slots i slot)) ≡ cond (eq_by_cmp R q k) (value_in (read slot)) (find R q (entries_of read slots))
+      → find R q (filter_map read (set slots i slot)) ≡ cond (eq_by_cmp R q k) (value_in (read slot)) (find R q (filter_map read slots))
   found_after k q slot i [] only has = absurd only
-  found_after k q slot zero (old ∷ slots) only has = replaced_first o k q (read old) (read slot) (entries_of read slots) only.0 has (none_found k slots only.1)
+  found_after k q slot zero (old ∷ slots) only has = replaced_first o k q (read old) (read slot) (filter_map read slots) only.0 has (none_found k slots only.1)
   found_after k q slot (suc i) (old ∷ slots) only has =
-      replaced_later o k q (read old) (value_in (read slot)) (entries_of read slots) (entries_of read (set slots i slot)) only.0 (found_after k q slot i slots only.1 has)
+      replaced_later o k q (read old) (value_in (read slot)) (filter_map read slots) (filter_map read (set slots i slot)) only.0 (found_after k q slot i slots only.1 has)
 
   -- a slot that says a value of the key
   pub put_in : finite.IsAntisymmetric R → (k : K) (v : V) (slot : S) (i : ℕ) (slots : List S) → OnlyAt R read k i slots → read slot ≡ Some (k, v)
-      → finite.from_entries {R = R} (entries_of read (set slots i slot)) ≡ finite.insert (finite.from_entries (entries_of read slots)) k v
+      → finite.from_entries {R = R} (filter_map read (set slots i slot)) ≡ finite.insert (finite.from_entries (filter_map read slots)) k v
   put_in exact k v slot i slots only is =
       let has : HasKey R k (read slot) = subst (λ e. HasKey R k e) (sym is) ((eq_by_cmp_equiv o).refl k) in
       finite.same_map o exact _ _ (λ q.
-      finite.get-from_entries o _ q ∙ found_after k q slot i slots only has ∙ ap (λ e. cond (eq_by_cmp R q k) (value_in e) (find R q (entries_of read slots))) is
-      ∙ sym (finite.get-insert o (finite.from_entries (entries_of read slots)) k v q ∙ ap (cond (eq_by_cmp R q k) (Some v)) (finite.get-from_entries o (entries_of read slots) q)))
+      finite.get-from_entries o _ q ∙ found_after k q slot i slots only has ∙ ap (λ e. cond (eq_by_cmp R q k) (value_in e) (find R q (filter_map read slots))) is
+      ∙ sym (finite.get-insert o (finite.from_entries (filter_map read slots)) k v q ∙ ap (cond (eq_by_cmp R q k) (Some v)) (finite.get-from_entries o (filter_map read slots) q)))
 
   -- and one that says nothing
   pub taken_out : finite.IsAntisymmetric R → (k : K) (slot : S) (i : ℕ) (slots : List S) → OnlyAt R read k i slots → read slot ≡ None
-      → finite.from_entries {R = R} (entries_of read (set slots i slot)) ≡ finite.remove (finite.from_entries (entries_of read slots)) k
+      → finite.from_entries {R = R} (filter_map read (set slots i slot)) ≡ finite.remove (finite.from_entries (filter_map read slots)) k
   taken_out exact k slot i slots only is =
       let has : HasKey R k (read slot) = subst (λ e. HasKey R k e) (sym is) tt in
       finite.same_map o exact _ _ (λ q.
-      finite.get-from_entries o _ q ∙ found_after k q slot i slots only has ∙ ap (λ e. cond (eq_by_cmp R q k) (value_in e) (find R q (entries_of read slots))) is
-      ∙ sym (finite.get-remove o (finite.from_entries (entries_of read slots)) k q ∙ ap (cond (eq_by_cmp R q k) None) (finite.get-from_entries o (entries_of read slots) q)))
+      finite.get-from_entries o _ q ∙ found_after k q slot i slots only has ∙ ap (λ e. cond (eq_by_cmp R q k) (value_in e) (find R q (filter_map read slots))) is
+      ∙ sym (finite.get-remove o (finite.from_entries (filter_map read slots)) k q ∙ ap (cond (eq_by_cmp R q k) None) (finite.get-from_entries o (filter_map read slots) q)))
 
   -- a free slot, and a key that no slot says
   pub only_free : (k : K) (i : ℕ) (slots : List S) (d : S) → i < length slots → NoneSays R read k slots → read (get_or slots i d) ≡ None → OnlyAt R read k i slots

@@ -1,9 +1,10 @@
 -- The places of the slots in the pages: each begins where the one before it ends, or later, and lies
 -- among the slots of one page.
 use Rattle.std.proofs.Common.{◌≡◌, ℕ, zero, suc, ◌+◌, ◌-◌, ◌*◌, ◌<◌, ◌≤◌, List, [], ◌∷◌, ◌++◌, length, map, flat_map, get_or, refl, ap, ◌∙◌, arith, add-one}
+use Rattle.std.specs.List.{range_with_len}
 use Rattle.std.proofs.Math.Nat.{mul-suc, mul-le-mul_left}
 use Rattle.mt_journal.specs.Layout.{Area}
-use Rattle.mt_tables.specs.Pages.{AreSlotSizes, SlotPlace, SlotSizes, numbers_from, page_places, place_in, places_below, slot_position, table_at}
+use Rattle.mt_tables.specs.Pages.{AreSlotSizes, SlotPlace, SlotSizes, page_places, place_in, places_below, slot_position, table_at}
 
 module _ (sizes : SlotSizes) where
   -- where the slot at a place ends
@@ -33,7 +34,7 @@ module _ (sizes : SlotSizes) where
 
   -- so many places of a page, from one on
   abbrev pub run_of : ℕ → ℕ → ℕ → ℕ → List SlotPlace
-  run_of table page i n = map (place_in sizes table page) (numbers_from i n)
+  run_of table page i n = map (place_in sizes table page) (range_with_len i n)
 
   pub length-run_of : (table page i n : ℕ) → length (run_of table page i n) ≡ n
   length-run_of table page i zero = refl
@@ -99,7 +100,7 @@ module _ (sizes : SlotSizes) where
 
   -- the places of so many pages, from one on
   abbrev pub pages_places : Area → ℕ → ℕ → List SlotPlace
-  pages_places area first n = flat_map (page_places sizes area) (numbers_from first n)
+  pages_places area first n = flat_map (page_places sizes area) (range_with_len first n)
 
   pub pages_low : (area : Area) (m first n : ℕ) → m ≤ first → AllFrom (4096 * m + 8) (pages_places area first n)
   pages_low area m first zero low = tt

@@ -1,5 +1,6 @@
 -- One change more keeps the plan of a group.
-use Rattle.std.proofs.Common.{◌≡◌, ◌≢◌, ℕ, zero, suc, ◌+◌, ◌<◌, ◌≤◌, Bool, true, false, cond, nat_eq, ◌*◌, ◌-◌, List, [], ◌∷◌, ◌++◌, length, drop, map, get_or, set, replicate, Option, None, Some, refl, sym, ap, ◌∙◌, arith, subst}
+use Rattle.std.proofs.Common.{◌≡◌, ◌≢◌, ℕ, zero, suc, ◌+◌, ◌<◌, ◌≤◌, Bool, true, false, cond, nat_eq, ◌*◌, ◌-◌, List, [], ◌∷◌, ◌++◌, length, drop, map, get_or, replicate, Option, None, Some, refl, sym, ap, ◌∙◌, arith, subst, filter_map}
+use Rattle.std.specs.List.{range_with_len}
 use Rattle.std.specs.Prelude.{nat_lt}
 use borrow.Author.Tests.{ltb-true, ltb-false}
 use Rattle.std.specs.declared.cmp.Ordering.{Ordering}
@@ -13,9 +14,9 @@ use Rattle.std.proofs.lemmas.List.{get_or-append-add, get_or-replicate, get_or-s
 use Rattle.mt_journal.specs.Layout.{Area, Range}
 use Rattle.mt_journal.specs.Replay.{with_ranges}
 use Rattle.mt_tables.specs.Commit.{IsNewPage}
-use Rattle.mt_tables.specs.Pages.{AreSlotSizes, SlotPlace, SlotSizes, bytes_at, numbers_from, place_in, places_below, slot_position}
+use Rattle.mt_tables.specs.Pages.{AreSlotSizes, SlotPlace, SlotSizes, place_in, places_below, slot_position}
 use Rattle.mt_tables.specs.Plan.{AreApart, AreFree, AreOthers, IsPlan, Says, page_positions, with_page, without_first}
-use Rattle.mt_tables.specs.Tables.{TableSlot, entries_of, slot_at, slots_below, tables_below}
+use Rattle.mt_tables.specs.Tables.{TableSlot, slot_at, slots_below, tables_below}
 use Rattle.mt_tables.specs.Unique.{AreUnique, Misses, NoneSays, NoneSaysIts}
 use Rattle.mt_tables.proofs.Bytes.{put_at}
 use Rattle.mt_tables.proofs.OneSlot.{OnlyAt, none_says, only_free, only_used, tied_are_one, unique_silent}
@@ -124,7 +125,7 @@ abbrev key_in : {K V : Type 0} → K → Option (K × V) → K
 key_in key None = key
 key_in key (Some e) = e.0
 
-module _ {K V : Type 0} {R : K → K → Ordering} (o : IsTotalOrder R) (exact : finite.IsAntisymmetric R) (sizes : SlotSizes) (sound : AreSlotSizes sizes) (read : TableSlot → Option (K × V)) (table_of : K → ℕ) (is_walked : ℕ → Bool) (count : ℕ) where
+module _ {K V : Type 0} {R : K → K → Ordering} (o : IsTotalOrder R) (exact : finite.IsAntisymmetric R) (sizes : SlotSizes) (sound : AreSlotSizes sizes) (read : TableSlot → Option (K × V)) (table_of : K → ℕ) (count : ℕ) where
   -- where the slot of a key stands
   abbrev pub place_of : K → ℕ → SlotPlace
   place_of key position = record { table = table_of key; position = position }
@@ -151,10 +152,10 @@ module _ {K V : Type 0} {R : K → K → Ordering} (o : IsTotalOrder R) (exact :
   other_held area i place bytes k2 p2 at short s apart = (s.0, others_say sizes sound read count area i place (place_of k2 p2) bytes (Some (k2, s.0)) at short s.1 apart)
 
   -- the slot of a key that is there is rewritten
-  pub plan_rewritten : (pages : Area) (changes : List (K × Option V)) (ranges : List Range) (index : finite.FinMap R ℕ) (free : ℕ → List ℕ) (k : K) (p : ℕ) (v : V) (bytes : List ℕ)
-      → IsPlan sizes read R table_of is_walked count pages changes ranges index free → finite.get index k ≡ Some p → length bytes ≤ sizes.width (table_of k)
+  pub plan_rewritten : (pages : Area) (changes : List (K × Option V)) (ranges : List Range) (index : finite.FinMap R (Option ℕ)) (free : ℕ → List ℕ) (k : K) (p : ℕ) (v : V) (bytes : List ℕ)
+      → IsPlan sizes read R table_of count pages changes ranges index free → finite.get index k ≡ Some (Some p) → length bytes ≤ sizes.width (table_of k)
       → read (slot_after sizes sound count (with_ranges ranges pages) (place_of k p) bytes) ≡ Some (k, v)
-      → IsPlan sizes read R table_of is_walked count pages (changes ++ (k, Some v) ∷ []) (ranges ++ range_at p bytes ∷ []) index free
+      → IsPlan sizes read R table_of count pages (changes ++ (k, Some v) ∷ []) (ranges ++ range_at p bytes ∷ []) index free
   plan_rewritten pages changes ranges index free k p v bytes plan there short says =
       let area = with_ranges ranges pages in
       let place = place_of k p in
@@ -167,27 +168,27 @@ module _ {K V : Type 0} {R : K → K → Ordering} (o : IsTotalOrder R) (exact :
         made = one_more_made sizes sound count read o exact pages ranges changes s.1.number place bytes k (Some v) plan.made at short only says;
         unique = subst (λ x. AreUnique R read (slots_below sizes count x)) (sym new) (step_unique sizes sound count read o area s.1.number place bytes k (Some v) at short only says plan.unique);
         held = λ k2 p2 there2. subst (λ x. (w : V) × Says sizes read count x (place_of k2 p2) (Some (k2, w))) (sym new) (by area s.1.number at here s k2 p2 there2 (plan.held k2 p2 there2) (eq_by_cmp R k2 k) refl);
-        lacked = λ k2 walked none. ap (λ x. finite.get (tables_below {R = R} sizes count read x) k2) new
+        lacked = λ k2 none. ap (λ x. finite.get (tables_below {R = R} sizes count read x) k2) new
             ∙ ap (λ m. finite.get m k2) (step sizes sound count read o exact area s.1.number place bytes k (Some v) at short only says)
-            ∙ finite.get-insert o (tables_below sizes count read area) k v k2 ∙ lacks k2 none (eq_by_cmp R k2 k) refl (plan.lacked k2 walked none);
+            ∙ finite.get-insert o (tables_below sizes count read area) k v k2 ∙ lacks k2 none (eq_by_cmp R k2 k) refl (plan.lacked k2 none);
         are_free = λ t. subst (λ x. AreFree sizes read count x t (free t)) (sym new)
             (still_free sizes sound read count area s.1.number place bytes t (free t) at short (used_apart sizes sound read count area place (k, s.0) t (free t) s.1 (plan.are_free t)) (plan.are_free t));
         are_apart = plan.are_apart;
       }
     where
       by : (area : Area) (i : ℕ) → StandsAt sizes sound count area i (place_of k p) → Says sizes read count (put_at p bytes area) (place_of k p) (Some (k, v)) → ((w : V) × Says sizes read count area (place_of k p) (Some (k, w)))
-          → (k2 : K) (p2 : ℕ) → finite.get index k2 ≡ Some p2 → ((w : V) × Says sizes read count area (place_of k2 p2) (Some (k2, w))) → (t : Bool) → eq_by_cmp R k2 k ≡ t
+          → (k2 : K) (p2 : ℕ) → finite.get index k2 ≡ Some (Some p2) → ((w : V) × Says sizes read count area (place_of k2 p2) (Some (k2, w))) → (t : Bool) → eq_by_cmp R k2 k ≡ t
           → (w : V) × Says sizes read count (put_at p bytes area) (place_of k2 p2) (Some (k2, w))
       by area i at here s k2 p2 there2 s2 true t =
           let same : k ≡ k2 = sym (tied_are_one exact k2 k t) in
-          let place : Some p ≡ Some p2 = sym there ∙ ap (finite.get index) same ∙ there2 in
+          let place : Some (Some p) ≡ Some (Some p2) = sym there ∙ ap (finite.get index) same ∙ there2 in
           let e : p ≡ p2 = cc in
           (v, subst (λ q. Says sizes read count (put_at p bytes area) (place_of k2 q) (Some (k2, v))) e (subst (λ q. Says sizes read count (put_at p bytes area) (place_of q p) (Some (q, v))) same here))
       by area i at here s k2 p2 there2 s2 false t =
           other_held area i (place_of k p) bytes k2 p2 at short s2 (other_place area (place_of k p) (place_of k2 p2) k k2 s.0 s2.0 s.1 s2.1 t)
 
-      lacks : (k2 : K) → finite.get index k2 ≡ None → (t : Bool) → eq_by_cmp R k2 k ≡ t → {m : Option V} → m ≡ None → cond t (Some v) m ≡ None
-      lacks k2 none true t is = let same = tied_are_one exact k2 k t in let h : finite.get index k ≡ None = ap (finite.get index) (sym same) ∙ none in cc
+      lacks : (k2 : K) → finite.get index k2 ≡ Some None → (t : Bool) → eq_by_cmp R k2 k ≡ t → {m : Option V} → m ≡ None → cond t (Some v) m ≡ None
+      lacks k2 none true t is = let same = tied_are_one exact k2 k t in let h : finite.get index k ≡ Some None = ap (finite.get index) (sym same) ∙ none in cc
       lacks k2 none false t is = is
 
   -- the free positions of each table, once the first of one table was written
@@ -218,17 +219,17 @@ module _ {K V : Type 0} {R : K → K → Ordering} (o : IsTotalOrder R) (exact :
       by false e = all t
 
   -- a key that stands nowhere gets the first free position of its table
-  pub plan_taken : (pages : Area) (changes : List (K × Option V)) (ranges : List Range) (index : finite.FinMap R ℕ) (free : ℕ → List ℕ) (p : ℕ) (rest : List ℕ) (k : K) (v : V) (bytes : List ℕ)
-      → IsPlan sizes read R table_of is_walked count pages changes ranges index free → free (table_of k) ≡ p ∷ rest → is_walked (table_of k) ≡ true → finite.get index k ≡ None → length bytes ≤ sizes.width (table_of k)
+  pub plan_taken : (pages : Area) (changes : List (K × Option V)) (ranges : List Range) (index : finite.FinMap R (Option ℕ)) (free : ℕ → List ℕ) (p : ℕ) (rest : List ℕ) (k : K) (v : V) (bytes : List ℕ)
+      → IsPlan sizes read R table_of count pages changes ranges index free → free (table_of k) ≡ p ∷ rest → finite.get index k ≡ Some None → length bytes ≤ sizes.width (table_of k)
       → read (slot_after sizes sound count (with_ranges ranges pages) (place_of k p) bytes) ≡ Some (k, v)
-      → IsPlan sizes read R table_of is_walked count pages (changes ++ (k, Some v) ∷ []) (ranges ++ range_at p bytes ∷ []) (finite.insert index k p) (without_first (table_of k) free)
-  plan_taken pages changes ranges index free p rest k v bytes plan first walked none short says =
+      → IsPlan sizes read R table_of count pages (changes ++ (k, Some v) ∷ []) (ranges ++ range_at p bytes ∷ []) (finite.insert index k (Some p)) (without_first (table_of k) free)
+  plan_taken pages changes ranges index free p rest k v bytes plan first none short says =
       let area = with_ranges ranges pages in
       let place = place_of k p in
       let all : AreFree sizes read count area (table_of k) (p ∷ rest) = subst (AreFree sizes read count area (table_of k)) first (plan.are_free (table_of k)) in
       let s = all.0 in
       let at = at_of sizes sound read count area place None s in
-      let missing : find R k (entries_of read (slots_below sizes count area)) ≡ None = sym (finite.get-from_entries o (entries_of read (slots_below sizes count area)) k) ∙ plan.lacked k walked none in
+      let missing : find R k (filter_map read (slots_below sizes count area)) ≡ None = sym (finite.get-from_entries o (filter_map read (slots_below sizes count area)) k) ∙ plan.lacked k none in
       let only : OnlyAt R read k s.number (slots_below sizes count area) =
       only_free o read k s.number (slots_below sizes count area) (0, []) (among_slots sizes sound read count area s.number place at) (none_says o read k (slots_below sizes count area) missing) (s.says (0, [])) in
       let new : with_ranges (ranges ++ range_at p bytes ∷ []) pages ≡ put_at p bytes area = with_ranges-last ranges (range_at p bytes) pages in
@@ -237,17 +238,17 @@ module _ {K V : Type 0} {R : K → K → Ordering} (o : IsTotalOrder R) (exact :
         made = one_more_made sizes sound count read o exact pages ranges changes s.number place bytes k (Some v) plan.made at short only says;
         unique = subst (λ x. AreUnique R read (slots_below sizes count x)) (sym new) (step_unique sizes sound count read o area s.number place bytes k (Some v) at short only says plan.unique);
         held = λ k2 p2 there2. subst (λ x. (w : V) × Says sizes read count x (place_of k2 p2) (Some (k2, w))) (sym new)
-            (by area s at here k2 p2 (eq_by_cmp R k2 k) refl (sym (finite.get-insert o index k p k2) ∙ there2) (plan.held k2 p2));
-        lacked = λ k2 walked none2. ap (λ x. finite.get (tables_below {R = R} sizes count read x) k2) new
+            (by area s at here k2 p2 (eq_by_cmp R k2 k) refl (sym (finite.get-insert o index k (Some p) k2) ∙ there2) (plan.held k2 p2));
+        lacked = λ k2 none2. ap (λ x. finite.get (tables_below {R = R} sizes count read x) k2) new
             ∙ ap (λ m. finite.get m k2) (step sizes sound count read o exact area s.number place bytes k (Some v) at short only says)
-            ∙ finite.get-insert o (tables_below sizes count read area) k v k2 ∙ lacks k2 (eq_by_cmp R k2 k) (sym (finite.get-insert o index k p k2) ∙ none2) (plan.lacked k2 walked);
+            ∙ finite.get-insert o (tables_below sizes count read area) k v k2 ∙ lacks k2 (eq_by_cmp R k2 k) (sym (finite.get-insert o index k (Some p) k2) ∙ none2) (plan.lacked k2);
         are_free = λ t. subst (λ x. AreFree sizes read count x t (without_first (table_of k) free t)) (sym new)
             (free_then area s.number p rest free k bytes at short first (subst AreApart first (plan.are_apart (table_of k))) s all.1 plan.are_free t);
         are_apart = apart_then p rest free (table_of k) first plan.are_apart;
       }
     where
       by : (area : Area) (s : Says sizes read count area (place_of k p) None) → StandsAt sizes sound count area s.number (place_of k p) → Says sizes read count (put_at p bytes area) (place_of k p) (Some (k, v)) → (k2 : K) (p2 : ℕ) (t : Bool) → eq_by_cmp R k2 k ≡ t
-          → cond t (Some p) (finite.get index k2) ≡ Some p2 → (finite.get index k2 ≡ Some p2 → (w : V) × Says sizes read count area (place_of k2 p2) (Some (k2, w)))
+          → cond t (Some (Some p)) (finite.get index k2) ≡ Some (Some p2) → (finite.get index k2 ≡ Some (Some p2) → (w : V) × Says sizes read count area (place_of k2 p2) (Some (k2, w)))
           → (w : V) × Says sizes read count (put_at p bytes area) (place_of k2 p2) (Some (k2, w))
       by area s at here k2 p2 true t is held =
           let same : k ≡ k2 = sym (tied_are_one exact k2 k t) in
@@ -257,15 +258,15 @@ module _ {K V : Type 0} {R : K → K → Ordering} (o : IsTotalOrder R) (exact :
           let s2 = held is in
           other_held area s.number (place_of k p) bytes k2 p2 at short s2 (λ same. let h = one_says sizes sound read count area (place_of k2 p2) (place_of k p) (Some (k2, s2.0)) None s2.1 s same in cc)
 
-      lacks : (k2 : K) (t : Bool) → cond t (Some p) (finite.get index k2) ≡ None → {m : Option V} → (finite.get index k2 ≡ None → m ≡ None) → cond t (Some v) m ≡ None
+      lacks : (k2 : K) (t : Bool) → cond t (Some (Some p)) (finite.get index k2) ≡ Some None → {m : Option V} → (finite.get index k2 ≡ Some None → m ≡ None) → cond t (Some v) m ≡ None
       lacks k2 true is rest = cc
       lacks k2 false is rest = rest is
 
   -- a key loses its place, which is not among the free ones before the group is committed
-  pub plan_removed : (pages : Area) (changes : List (K × Option V)) (ranges : List Range) (index : finite.FinMap R ℕ) (free : ℕ → List ℕ) (k : K) (p : ℕ) (bytes : List ℕ)
-      → IsPlan sizes read R table_of is_walked count pages changes ranges index free → finite.get index k ≡ Some p → length bytes ≤ sizes.width (table_of k)
+  pub plan_removed : (pages : Area) (changes : List (K × Option V)) (ranges : List Range) (index : finite.FinMap R (Option ℕ)) (free : ℕ → List ℕ) (k : K) (p : ℕ) (bytes : List ℕ)
+      → IsPlan sizes read R table_of count pages changes ranges index free → finite.get index k ≡ Some (Some p) → length bytes ≤ sizes.width (table_of k)
       → read (slot_after sizes sound count (with_ranges ranges pages) (place_of k p) bytes) ≡ None
-      → IsPlan sizes read R table_of is_walked count pages (changes ++ (k, None) ∷ []) (ranges ++ range_at p bytes ∷ []) (finite.remove index k) free
+      → IsPlan sizes read R table_of count pages (changes ++ (k, None) ∷ []) (ranges ++ range_at p bytes ∷ []) (finite.insert index k None) free
   plan_removed pages changes ranges index free k p bytes plan there short says =
       let area = with_ranges ranges pages in
       let place = place_of k p in
@@ -277,33 +278,33 @@ module _ {K V : Type 0} {R : K → K → Ordering} (o : IsTotalOrder R) (exact :
         made = one_more_made sizes sound count read o exact pages ranges changes s.1.number place bytes k None plan.made at short only says;
         unique = subst (λ x. AreUnique R read (slots_below sizes count x)) (sym new) (step_unique sizes sound count read o area s.1.number place bytes k None at short only says plan.unique);
         held = λ k2 p2 there2. subst (λ x. (w : V) × Says sizes read count x (place_of k2 p2) (Some (k2, w))) (sym new)
-            (by area s.1.number at s k2 p2 (eq_by_cmp R k2 k) refl (sym (finite.get-remove o index k k2) ∙ there2) (plan.held k2 p2));
-        lacked = λ k2 walked none. ap (λ x. finite.get (tables_below {R = R} sizes count read x) k2) new
+            (by area s.1.number at s k2 p2 (eq_by_cmp R k2 k) refl (sym (finite.get-insert o index k None k2) ∙ there2) (plan.held k2 p2));
+        lacked = λ k2 none. ap (λ x. finite.get (tables_below {R = R} sizes count read x) k2) new
             ∙ ap (λ m. finite.get m k2) (step sizes sound count read o exact area s.1.number place bytes k None at short only says)
-            ∙ finite.get-remove o (tables_below sizes count read area) k k2 ∙ lacks k2 (eq_by_cmp R k2 k) (sym (finite.get-remove o index k k2) ∙ none) (plan.lacked k2 walked);
+            ∙ finite.get-remove o (tables_below sizes count read area) k k2 ∙ lacks k2 (eq_by_cmp R k2 k) (sym (finite.get-insert o index k None k2) ∙ none) (plan.lacked k2);
         are_free = λ t. subst (λ x. AreFree sizes read count x t (free t)) (sym new)
             (still_free sizes sound read count area s.1.number place bytes t (free t) at short (used_apart sizes sound read count area place (k, s.0) t (free t) s.1 (plan.are_free t)) (plan.are_free t));
         are_apart = plan.are_apart;
       }
     where
       by : (area : Area) (i : ℕ) → StandsAt sizes sound count area i (place_of k p) → ((w : V) × Says sizes read count area (place_of k p) (Some (k, w))) → (k2 : K) (p2 : ℕ) (t : Bool) → eq_by_cmp R k2 k ≡ t
-          → cond t None (finite.get index k2) ≡ Some p2 → (finite.get index k2 ≡ Some p2 → (w : V) × Says sizes read count area (place_of k2 p2) (Some (k2, w)))
+          → cond t (Some None) (finite.get index k2) ≡ Some (Some p2) → (finite.get index k2 ≡ Some (Some p2) → (w : V) × Says sizes read count area (place_of k2 p2) (Some (k2, w)))
           → (w : V) × Says sizes read count (put_at p bytes area) (place_of k2 p2) (Some (k2, w))
       by area i at s k2 p2 true t is held = cc
       by area i at s k2 p2 false t is held =
           let s2 = held is in
           other_held area i (place_of k p) bytes k2 p2 at short s2 (other_place area (place_of k p) (place_of k2 p2) k k2 s.0 s2.0 s.1 s2.1 t)
 
-      lacks : (k2 : K) (t : Bool) → cond t None (finite.get index k2) ≡ None → {m : Option V} → (finite.get index k2 ≡ None → m ≡ None) → cond t None m ≡ None
+      lacks : (k2 : K) (t : Bool) → cond t (Some None) (finite.get index k2) ≡ Some None → {m : Option V} → (finite.get index k2 ≡ Some None → m ≡ None) → cond t None m ≡ None
       lacks k2 true is rest = refl
       lacks k2 false is rest = rest is
 
   -- a range of the other tables, into a slot that said nothing here and says nothing, changes nothing
-  pub plan_silent : (pages : Area) (changes : List (K × Option V)) (ranges : List Range) (index : finite.FinMap R ℕ) (free free2 : ℕ → List ℕ) (place : SlotPlace) (bytes : List ℕ)
-      → IsPlan sizes read R table_of is_walked count pages changes ranges index free → Says sizes read count (with_ranges ranges pages) place None → length bytes ≤ sizes.width place.table
+  pub plan_silent : (pages : Area) (changes : List (K × Option V)) (ranges : List Range) (index : finite.FinMap R (Option ℕ)) (free free2 : ℕ → List ℕ) (place : SlotPlace) (bytes : List ℕ)
+      → IsPlan sizes read R table_of count pages changes ranges index free → Says sizes read count (with_ranges ranges pages) place None → length bytes ≤ sizes.width place.table
       → read (slot_after sizes sound count (with_ranges ranges pages) place bytes) ≡ None
       → ((t : ℕ) → AreFree sizes read count (with_ranges ranges pages) t (free2 t)) → ((t : ℕ) → AreOthers place.position (free2 t)) → ((t : ℕ) → AreApart (free2 t))
-      → IsPlan sizes read R table_of is_walked count pages changes (ranges ++ range_at place.position bytes ∷ []) index free2
+      → IsPlan sizes read R table_of count pages changes (ranges ++ range_at place.position bytes ∷ []) index free2
   plan_silent pages changes ranges index free free2 place bytes plan s short says all others apart =
       let area = with_ranges ranges pages in
       let at = at_of sizes sound read count area place None s in
@@ -317,7 +318,7 @@ module _ {K V : Type 0} {R : K → K → Ordering} (o : IsTotalOrder R) (exact :
         held = λ k2 p2 there2. subst (λ x. (w : V) × Says sizes read count x (place_of k2 p2) (Some (k2, w))) (sym new)
             (let s2 = plan.held k2 p2 there2 in
             other_held area s.number place bytes k2 p2 at short s2 (λ e. let h = one_says sizes sound read count area (place_of k2 p2) place (Some (k2, s2.0)) None s2.1 s e in cc));
-        lacked = λ k2 walked none. ap (λ x. finite.get (tables_below {R = R} sizes count read x) k2) new ∙ ap (λ m. finite.get m k2) same ∙ plan.lacked k2 walked none;
+        lacked = λ k2 none. ap (λ x. finite.get (tables_below {R = R} sizes count read x) k2) new ∙ ap (λ m. finite.get m k2) same ∙ plan.lacked k2 none;
         are_free = λ t. subst (λ x. AreFree sizes read count x t (free2 t)) (sym new) (still_free sizes sound read count area s.number place bytes t (free2 t) at short (others t) (all t));
         are_apart = apart;
       }
@@ -360,20 +361,20 @@ module _ {K V : Type 0} (sizes : SlotSizes) (sound : AreSlotSizes sizes) (read :
               ∙ ap read (get_or-append-add (slots_below sizes count old) (replicate (sizes.count table) (blank_slot sizes table)) j d ∙ get_or-replicate (sizes.count table) j (blank_slot sizes table) d within) ∙ free;
         }
 
-    blanks_free : (i n : ℕ) → i + n ≤ sizes.count table → AreFree sizes read (count + 1) new table (map (slot_position (sizes.width table) count) (numbers_from i n))
+    blanks_free : (i n : ℕ) → i + n ≤ sizes.count table → AreFree sizes read (count + 1) new table (map (slot_position (sizes.width table) count) (range_with_len i n))
     blanks_free i zero within = tt
     blanks_free i (suc n) within = (blank_says i (omega arith), blanks_free (i + 1) n (omega arith))
 
 -- positions that rise are apart
 module _ (sizes : SlotSizes) (sound : AreSlotSizes sizes) where
   -- no position of a page's slots from the i-th on is one that lies before it
-  before_run : (table page at i n : ℕ) → at < slot_position (sizes.width table) page i → AreOthers at (map (slot_position (sizes.width table) page) (numbers_from i n))
+  before_run : (table page at i n : ℕ) → at < slot_position (sizes.width table) page i → AreOthers at (map (slot_position (sizes.width table) page) (range_with_len i n))
   before_run table page at i zero before = tt
   before_run table page at i (suc n) before =
       let next = next_position sizes (sizes.width table) page i in
       ((λ same. absurd (omega arith)), before_run table page at (i + 1) n (omega arith))
 
-  run_apart : (table page i n : ℕ) → AreApart (map (slot_position (sizes.width table) page) (numbers_from i n))
+  run_apart : (table page i n : ℕ) → AreApart (map (slot_position (sizes.width table) page) (range_with_len i n))
   run_apart table page i zero = tt
   run_apart table page i (suc n) =
       let wide = sound.some table in
@@ -399,7 +400,7 @@ module _ (sizes : SlotSizes) (sound : AreSlotSizes sizes) where
         let before = lies_before some (record { table = t; position = p }) None free.0 in
         (others_append p positions (page_positions sizes table count) apart.0 (before_run table count p 0 (sizes.count table) (omega arith)), free_and_new some table t positions free.1 apart.1)
 
-module _ {K V : Type 0} (R : K → K → Ordering) (sizes : SlotSizes) (sound : AreSlotSizes sizes) (read : TableSlot → Option (K × V)) (table_of : K → ℕ) (is_walked : ℕ → Bool) (count : ℕ) where
+module _ {K V : Type 0} (R : K → K → Ordering) (sizes : SlotSizes) (sound : AreSlotSizes sizes) (read : TableSlot → Option (K × V)) (table_of : K → ℕ) (count : ℕ) where
   blanks_unique : (slots : List TableSlot) (n : ℕ) (blank : TableSlot) → read blank ≡ None → AreUnique R read slots → AreUnique R read (slots ++ replicate n blank)
   blanks_unique [] zero blank free unique = tt
   blanks_unique [] (suc n) blank free unique = (subst (λ e. NoneSaysIts R read e (replicate n blank)) (sym free) tt, blanks_unique [] n blank free tt)
@@ -418,9 +419,9 @@ module _ {K V : Type 0} (R : K → K → Ordering) (sizes : SlotSizes) (sound : 
       by (Some e) none = none_more e.0 slots none
 
   -- the positions of a new page are free behind those that were
-  pub plan_with_page : (pages : Area) (changes : List (K × Option V)) (ranges more : List Range) (index : finite.FinMap R ℕ) (free : ℕ → List ℕ) (table : ℕ)
-      → IsPlan sizes read R table_of is_walked count pages changes ranges index free → IsNewPage count table (with_ranges ranges pages) (with_ranges (ranges ++ more) pages) → read (blank_slot sizes table) ≡ None
-      → IsPlan sizes read R table_of is_walked (count + 1) pages changes (ranges ++ more) index (with_page sizes table count free)
+  pub plan_with_page : (pages : Area) (changes : List (K × Option V)) (ranges more : List Range) (index : finite.FinMap R (Option ℕ)) (free : ℕ → List ℕ) (table : ℕ)
+      → IsPlan sizes read R table_of count pages changes ranges index free → IsNewPage count table (with_ranges ranges pages) (with_ranges (ranges ++ more) pages) → read (blank_slot sizes table) ≡ None
+      → IsPlan sizes read R table_of (count + 1) pages changes (ranges ++ more) index (with_page sizes table count free)
   plan_with_page pages changes ranges more index free table plan is blank =
       let old = with_ranges ranges pages in
       let new = with_ranges (ranges ++ more) pages in
@@ -433,7 +434,7 @@ module _ {K V : Type 0} (R : K → K → Ordering) (sizes : SlotSizes) (sound : 
         made = same ∙ plan.made;
         unique = subst (AreUnique R read) (sym slots) (blanks_unique (slots_below sizes count old) (sizes.count table) (blank_slot sizes table) blank plan.unique);
         held = λ k p there. let s = plan.held k p there in (s.0, front_says sizes sound read count old new run blanks places slots (record { table = table_of k; position = p }) (Some (k, s.0)) s.1);
-        lacked = λ k walked none. ap (λ m. finite.get m k) same ∙ plan.lacked k walked none;
+        lacked = λ k none. ap (λ m. finite.get m k) same ∙ plan.lacked k none;
         are_free = λ t. free_by old new is blank run blanks places slots t (plan.are_free t) (nat_eq t table) refl;
         are_apart = λ t. apart_by old is.some t (plan.are_free t) (plan.are_apart t) (nat_eq t table);
       }
@@ -456,9 +457,9 @@ module _ {K V : Type 0} (R : K → K → Ordering) (sizes : SlotSizes) (sound : 
       apart_by old some t all apart false = apart
 
   -- a range in page 0 changes nothing of the plan
-  pub plan_with_control : (pages : Area) (changes : List (K × Option V)) (ranges : List Range) (index : finite.FinMap R ℕ) (free : ℕ → List ℕ) (at : ℕ) (bytes : List ℕ)
-      → IsPlan sizes read R table_of is_walked count pages changes ranges index free → at + length bytes ≤ 4096
-      → IsPlan sizes read R table_of is_walked count pages changes (ranges ++ record { position = at; bytes = bytes } ∷ []) index free
+  pub plan_with_control : (pages : Area) (changes : List (K × Option V)) (ranges : List Range) (index : finite.FinMap R (Option ℕ)) (free : ℕ → List ℕ) (at : ℕ) (bytes : List ℕ)
+      → IsPlan sizes read R table_of count pages changes ranges index free → at + length bytes ≤ 4096
+      → IsPlan sizes read R table_of count pages changes (ranges ++ record { position = at; bytes = bytes } ∷ []) index free
   plan_with_control pages changes ranges index free at bytes plan low =
       let old = with_ranges ranges pages in
       let new : with_ranges (ranges ++ record { position = at; bytes = bytes } ∷ []) pages ≡ put_at at bytes old = with_ranges-last ranges (record { position = at; bytes = bytes }) pages in
@@ -470,7 +471,7 @@ module _ {K V : Type 0} (R : K → K → Ordering) (sizes : SlotSizes) (sound : 
         unique = subst (λ x. AreUnique R read (slots_below sizes count x)) (sym new) (subst (AreUnique R read) (sym slots) plan.unique);
         held = λ k p there. let s = plan.held k p there in
             (s.0, subst (λ x. Says sizes read count x (record { table = table_of k; position = p }) (Some (k, s.0))) (sym new) (says_still old (put_at at bytes old) places slots (record { table = table_of k; position = p }) (Some (k, s.0)) s.1));
-        lacked = λ k walked none. ap (λ x. finite.get (tables_below {R = R} sizes count read x) k) new ∙ ap (λ m. finite.get m k) same ∙ plan.lacked k walked none;
+        lacked = λ k none. ap (λ x. finite.get (tables_below {R = R} sizes count read x) k) new ∙ ap (λ m. finite.get m k) same ∙ plan.lacked k none;
         are_free = λ t. subst (λ x. AreFree sizes read count x t (free t)) (sym new) (free_still old (put_at at bytes old) places slots t (free t) (plan.are_free t));
         are_apart = plan.are_apart;
       }

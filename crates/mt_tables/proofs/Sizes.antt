@@ -1,10 +1,10 @@
 -- The slots of tables with known layouts lie within their pages.
-use Rattle.std.proofs.Common.{◌≡◌, ℕ, ◌+◌, ◌*◌, ◌/◌, ◌≤◌, Bool, true, false, cond, Option, None, Some, refl, arith}
+use Rattle.std.proofs.Common.{◌+◌, ◌*◌, ◌≤◌, Option, None, Some, arith}
 use Rattle.std.proofs.Math.Nat.{mul-div-le}
 use Rattle.mt_rowfile.specs.declared.layout.Head.{Head}
 use Rattle.mt_rowfile.specs.declared.layout.Head.TheVariants.{Catalogue, Conventional, Chunk}
 use Rattle.mt_rowfile.specs.declared.layout.Layout.{Layout}
-use Rattle.mt_rowfile.specs.Layouts.{fields_width, head_width, slot_width, slots_per_page}
+use Rattle.mt_rowfile.specs.Layouts.{head_width, slot_width}
 use Rattle.mt_tables.specs.Pages.{AreSlotSizes}
 use Rattle.mt_tables.specs.Rows.{KnownLayouts, count_by, layout_of, sizes_of, width_by}
 

@@ -1,5 +1,5 @@
 -- One range more, or one page more: what it changes of what the slots say.
-use Rattle.std.proofs.Common.{◌≡◌, ℕ, zero, suc, ◌+◌, ◌<◌, ◌≤◌, List, [], ◌∷◌, ◌++◌, length, get_or, set, replicate, Option, None, Some, refl, sym, ap, ◌∙◌, arith, subst}
+use Rattle.std.proofs.Common.{◌≡◌, ℕ, zero, suc, ◌+◌, ◌<◌, ◌≤◌, List, [], ◌∷◌, ◌++◌, length, get_or, set, replicate, Option, None, Some, refl, sym, ap, ◌∙◌, arith, subst, filter_map}
 use Rattle.std.specs.declared.cmp.Ordering.{Ordering}
 use Rattle.std.specs.Cmp.{IsTotalOrder}
 use Rattle.std.proofs.lemmas.Cmp.{eq_by_cmp_equiv}
@@ -8,7 +8,7 @@ use Rattle.mt_journal.specs.Layout.{Area, Range}
 use Rattle.mt_journal.specs.Replay.{with_range, with_ranges}
 use Rattle.mt_tables.specs.Commit.{IsNewPage, Makes, with_value, with_values}
 use Rattle.mt_tables.specs.Pages.{AreSlotSizes, SlotPlace, SlotSizes, bytes_at, places_below}
-use Rattle.mt_tables.specs.Tables.{TableSlot, entries_of, overwritten, slots_below, tables_below, tables_of, with_entry}
+use Rattle.mt_tables.specs.Tables.{TableSlot, overwritten, slots_below, tables_below, tables_of}
 use Rattle.mt_tables.specs.Unique.{AreUnique}
 use Rattle.mt_tables.proofs.Bytes.{put_at}
 use Rattle.mt_tables.proofs.OneSlot.{HasKey, OnlyAt, free_behind, put_in, silent_set, taken_out, unique_after}
@@ -31,7 +31,7 @@ entry_with key None = None
 entry_with key (Some v) = Some (key, v)
 
 -- slots that say nothing
-blank_entries : {E : Type 0} (read : TableSlot → Option E) (n : ℕ) (slot : TableSlot) → read slot ≡ None → entries_of read (replicate n slot) ≡ []
+blank_entries : {E : Type 0} (read : TableSlot → Option E) (n : ℕ) (slot : TableSlot) → read slot ≡ None → filter_map read (replicate n slot) ≡ []
 blank_entries read zero slot free = refl
 blank_entries read (suc n) slot free = rw (free, blank_entries read n slot free) refl
 
@@ -73,18 +73,18 @@ module _ (sizes : SlotSizes) (sound : AreSlotSizes sizes) (count : ℕ) where
         → read (get_or (slots_below sizes count area) i d) ≡ None → read (slot_after area place bytes) ≡ None
         → tables_below {R = R} sizes count read (put_at place.position bytes area) ≡ tables_below sizes count read area
     silent area i place bytes d at short old new =
-        ap (λ slots. finite.from_entries {R = R} (entries_of read slots)) (written area i place bytes at short)
+        ap (λ slots. finite.from_entries {R = R} (filter_map read slots)) (written area i place bytes at short)
         ∙ ap (finite.from_entries {R = R}) (silent_set read (slots_below sizes count area) i (slot_after area place bytes) d old new)
 
     -- nor does a new page change them
     pub page_made : (old new : Area) (table : ℕ) → IsNewPage count table old new → read (blank_slot sizes table) ≡ None → tables_below {R = R} sizes (count + 1) read new ≡ tables_below sizes count read old
     page_made old new table is free =
-        ap (λ slots. finite.from_entries {R = R} (entries_of read slots)) (page_added sizes sound count old new table is)
+        ap (λ slots. finite.from_entries {R = R} (filter_map read slots)) (page_added sizes sound count old new table is)
         ∙ ap (finite.from_entries {R = R}) (free_behind read (slots_below sizes count old) (replicate (sizes.count table) (blank_slot sizes table)) (blank_entries read (sizes.count table) (blank_slot sizes table) free))
 
     -- nor a write into page 0
     pub control_made : (area : Area) (at : ℕ) (bytes : List ℕ) → at + length bytes ≤ 4096 → tables_below {R = R} sizes count read (put_at at bytes area) ≡ tables_below sizes count read area
-    control_made area at bytes low = ap (λ slots. finite.from_entries {R = R} (entries_of read slots)) (control_written sizes count area at bytes low)
+    control_made area at bytes low = ap (λ slots. finite.from_entries {R = R} (filter_map read slots)) (control_written sizes count area at bytes low)
 
     module _ (o : IsTotalOrder R) where
       has_key : (k : K) (value : Option V) → HasKey R k (entry_with k value)
@@ -96,10 +96,10 @@ module _ (sizes : SlotSizes) (sound : AreSlotSizes sizes) (count : ℕ) where
           → OnlyAt R read k i (slots_below sizes count area) → read (slot_after area place bytes) ≡ entry_with k value
           → tables_below {R = R} sizes count read (put_at place.position bytes area) ≡ with_value k value (tables_below sizes count read area)
       step exact area i place bytes k None at short only says =
-          ap (λ slots. finite.from_entries {R = R} (entries_of read slots)) (written area i place bytes at short)
+          ap (λ slots. finite.from_entries {R = R} (filter_map read slots)) (written area i place bytes at short)
           ∙ taken_out o read exact k (slot_after area place bytes) i (slots_below sizes count area) only says
       step exact area i place bytes k (Some v) at short only says =
-          ap (λ slots. finite.from_entries {R = R} (entries_of read slots)) (written area i place bytes at short)
+          ap (λ slots. finite.from_entries {R = R} (filter_map read slots)) (written area i place bytes at short)
           ∙ put_in o read exact k v (slot_after area place bytes) i (slots_below sizes count area) only says
 
       -- and keys stay unique

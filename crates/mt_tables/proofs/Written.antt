@@ -1,12 +1,13 @@
 -- What a range, or a new page, does to the slots of the pages.
-use Rattle.std.proofs.Common.{◌≡◌, ℕ, zero, suc, ◌+◌, ◌-◌, ◌*◌, ◌<◌, ◌≤◌, Bool, true, false, List, [], ◌∷◌, ◌++◌, length, map, flat_map, get_or, set, replicate, refl, sym, ap, ◌∙◌, inl, inr, arith}
+use Rattle.std.proofs.Common.{◌≡◌, ℕ, zero, suc, ◌+◌, ◌-◌, ◌*◌, ◌<◌, ◌≤◌, Bool, true, false, List, [], ◌∷◌, ◌++◌, length, map, flat_map, get_or, set, replicate, refl, ap, ◌∙◌, inl, inr, arith}
+use Rattle.std.specs.List.{range_with_len}
 use Rattle.std.specs.Prelude.{nat_lt}
 use borrow.Author.Tests.{ltb-true, ltb-false}
 use Rattle.std.proofs.lemmas.List.{append-nil, map-append}
 use Rattle.std.proofs.lemmas.Grind.{flat_map-append}
 use Rattle.mt_journal.specs.Layout.{Area}
 use Rattle.mt_tables.specs.Commit.{IsNewPage}
-use Rattle.mt_tables.specs.Pages.{AreSlotSizes, SlotPlace, SlotSizes, bytes_at, numbers_from, page_places, place_in, places_below, slot_position, table_at}
+use Rattle.mt_tables.specs.Pages.{AreSlotSizes, SlotPlace, SlotSizes, bytes_at, page_places, place_in, places_below, slot_position, table_at}
 use Rattle.mt_tables.specs.Tables.{TableSlot, overwritten, slot_at, slots_below}
 use Rattle.mt_tables.proofs.Bytes.{Beside, beside_range, overwrites, put_at, same_bytes, same_number, zero_bytes}
 use Rattle.mt_tables.proofs.Places.{AllFrom, AllUpto, AreRising, IsInPage, end_of, from_get_or, from_less, pages_high, pages_low, pages_places, places_rise, run_ends, run_from, run_of}
@@ -45,7 +46,7 @@ module _ (sizes : SlotSizes) where
   -- and so the places of the slots
   pub places_stand : (count : ℕ) (area : Area) (page at : ℕ) (bytes : List ℕ) → IsInPage sizes page at (length bytes) → places_below sizes count (put_at at bytes area) ≡ places_below sizes count area
   places_stand count area page at bytes inside = λ i.
-      flat_map (λ m. map (place_in sizes (heads_stand area page at bytes inside m i) m) (numbers_from 0 (sizes.count (heads_stand area page at bytes inside m i)))) (numbers_from 1 (count - 1))
+      flat_map (λ m. map (place_in sizes (heads_stand area page at bytes inside m i) m) (range_with_len 0 (sizes.count (heads_stand area page at bytes inside m i)))) (range_with_len 1 (count - 1))
 
   -- a write into the i-th slot replaces it alone
   pub slot_written : AreSlotSizes sizes → (count : ℕ) (area : Area) (page i : ℕ) (d : SlotPlace) (bytes : List ℕ) → i < length (places_below sizes count area)
@@ -56,12 +57,12 @@ module _ (sizes : SlotSizes) where
       ap (map (slot_at sizes (put_at (get_or (places_below sizes count area) i d).position bytes area))) (places_stand count area page (get_or (places_below sizes count area) i d).position bytes inside)
       ∙ overwritten_slots area (places_below sizes count area) i d bytes (places_rise sizes sound count area) within short
 
-  numbers_from-last : (first n : ℕ) → numbers_from first (n + 1) ≡ numbers_from first n ++ (first + n) ∷ []
-  numbers_from-last first zero = let e : first + 0 ≡ first = omega arith in rw e refl
-  numbers_from-last first (suc n) =
+  range_with_len-last : (first n : ℕ) → range_with_len first (n + 1) ≡ range_with_len first n ++ (first + n) ∷ []
+  range_with_len-last first zero = let e : first + 0 ≡ first = omega arith in rw e refl
+  range_with_len-last first (suc n) =
       let e : suc n + 1 ≡ suc (n + 1) = omega arith in
       let f : first + suc n ≡ first + 1 + n = omega arith in
-      rw (e, f, numbers_from-last (first + 1) n) refl
+      rw (e, f, range_with_len-last (first + 1) n) refl
 
   -- pages of the same tables have their slots at the same places
   same_places : (old new : Area) (first n : ℕ) → ((m : ℕ) → first ≤ m → m < first + n → table_at new m ≡ table_at old m) → pages_places sizes new first n ≡ pages_places sizes old first n
@@ -69,7 +70,7 @@ module _ (sizes : SlotSizes) where
   same_places old new first (suc n) same =
       let head : table_at new first ≡ table_at old first = same first (omega arith) (omega arith) in
       let rest = same_places old new (first + 1) n (λ m low high. same m (omega arith) (omega arith)) in
-      λ i. map (place_in sizes (head i) first) (numbers_from 0 (sizes.count (head i))) ++ rest i
+      λ i. map (place_in sizes (head i) first) (range_with_len 0 (sizes.count (head i))) ++ rest i
 
   -- slots between two positions are the same where the bytes between them are
   same_slots : (old new : Area) (low high : ℕ) (places : List SlotPlace) → AllFrom sizes low places → AllUpto sizes high places → ((k : ℕ) → low ≤ k → k < high → new k ≡ old k) → map (slot_at sizes new) places ≡ map (slot_at sizes old) places
@@ -97,8 +98,8 @@ module _ (sizes : SlotSizes) where
       let f : 1 + (count - 1) ≡ count = omega arith in
       let heads : (m : ℕ) → 1 ≤ m → m < 1 + (count - 1) → table_at new m ≡ table_at old m
       = λ m low high. same_number old new (4096 * m) 4 (λ k above below. is.rest k (omega arith) (omega arith)) in
-      ap (pages_places sizes new 1) e ∙ ap (flat_map (page_places sizes new)) (numbers_from-last 1 (count - 1))
-      ∙ flat_map-append (page_places sizes new) (numbers_from 1 (count - 1)) ((1 + (count - 1)) ∷ [])
+      ap (pages_places sizes new 1) e ∙ ap (flat_map (page_places sizes new)) (range_with_len-last 1 (count - 1))
+      ∙ flat_map-append (page_places sizes new) (range_with_len 1 (count - 1)) ((1 + (count - 1)) ∷ [])
       ∙ ap (λ front. front ++ flat_map (page_places sizes new) ((1 + (count - 1)) ∷ [])) (same_places old new 1 (count - 1) heads)
       ∙ ap (λ last. places_below sizes count old ++ last) (append-nil (page_places sizes new (1 + (count - 1))) ∙ ap (page_places sizes new) f ∙ ap (λ t. run_of sizes t count 0 (sizes.count t)) is.head)
 

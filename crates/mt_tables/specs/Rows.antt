@@ -1,11 +1,9 @@
 -- The rows and the catalogue that an image's pages hold, by the layouts that are known.
-use Rattle.std.specs.Prelude.{◌≡◌, ◌⊎◌, ℕ, ◌==◌, ◌&&◌, nat_le, Bool, if◌then◌else◌, List, [], drop, All, Option, None, Some, IfSome, slice_index}
-use Rattle.std.specs.FinMap as finite
+use Rattle.std.specs.Prelude.{◌≡◌, ℕ, ◌==◌, ◌&&◌, nat_le, Bool, if◌then◌else◌, List, [], drop, All, Option, None, Some, IfSome, slice_index}
 use Rattle.mt_journal.specs.Layout.{Area}
 use Rattle.mt_rowfile.specs.declared.layout.Layout.{Layout}
 use Rattle.mt_rowfile.specs.declared.layout.Head.{Head}
 use Rattle.mt_rowfile.specs.declared.layout.Head.TheVariants.{Catalogue, Conventional, Chunk}
-use Rattle.mt_rowfile.specs.declared.slot.SlotRow.{SlotRow}
 use Rattle.mt_rowfile.specs.Layouts.{IsLayout, chunk_layout, slot_width, slots_per_page}
 use Rattle.mt_rowfile.specs.Slots.{IsSlot, slot_of}
 use Rattle.mt_physplan.specs.declared.key.Cell.{Cell}

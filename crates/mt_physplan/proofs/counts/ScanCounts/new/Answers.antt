@@ -1,5 +1,5 @@
 -- An array of zeros counts nothing.
-use Rattle.mt_physplan.proofs.Counts.{none_counted}
+use Rattle.mt_physplan.proofs.Counted.{none_counted}
 use Rattle.mt_physplan.proofs.counts.ScanCounts.new.Goals as goal
 
 pub returns : goal.returns
