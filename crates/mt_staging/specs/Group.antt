@@ -1,6 +1,6 @@
 -- A group of ranges while it is chosen for changes, one after another, and what the pages hold once it
 -- is written.
-use Rattle.std.specs.Prelude.{◌≡◌, ◌⊎◌, ℕ, ◌+◌, ◌*◌, ◌^◌, ◌<◌, ◌≤◌, ◌&&◌, nat_eq, Bool, true, false, not, if◌then◌else◌, List, [], ◌∷◌, length, slice_index, count_by, Option, None, Some}
+use Rattle.std.specs.Prelude.{◌≡◌, ◌⊎◌, ℕ, ◌+◌, ◌*◌, ◌^◌, ◌<◌, ◌≤◌, ◌&&◌, nat_eq, Bool, true, false, not, if◌then◌else◌, List, [], ◌∷◌, length, slice_index, count_by, All, Option, None, Some}
 use Rattle.std.specs.FinMap as finite
 use Rattle.std.specs.FinSet as set
 use Rattle.mt_journal.specs.Commits.{payload_size}
@@ -11,12 +11,13 @@ use Rattle.mt_rowfile.specs.declared.layout.Head.TheVariants.{Catalogue, Convent
 use Rattle.mt_rowfile.specs.declared.layout.Layout.{Layout}
 use Rattle.mt_rowfile.specs.Layouts.{IsOfRows, body_width, slots_per_page}
 use Rattle.mt_rowfile.specs.Pages.{is_free}
-use Rattle.mt_rowfile.specs.Slots.{FitsLayout, IsMark}
+use Rattle.mt_rowfile.specs.Slots.{FitsLayout, IsBody, IsMark}
 use Rattle.mt_physplan.specs.declared.change.Change.{Change}
 use Rattle.mt_physplan.specs.declared.change.Change.TheVariants.{Put, Mark, Remove, PutCat, RemoveCat}
 use Rattle.mt_physplan.specs.declared.key.Cell.{Cell}
 use Rattle.mt_physplan.specs.declared.key.Key.{Key}
-use Rattle.mt_physplan.specs.Applied.{Catalogue, applied, applied_by, body_cmp, catalogue_applied, catalogue_applied_by}
+use Rattle.mt_physplan.specs.Applied as physical
+use Rattle.mt_physplan.specs.Applied.{applied, applied_by, body_cmp, catalogue_applied, catalogue_applied_by}
 use Rattle.mt_physplan.specs.Content.{Content}
 use Rattle.mt_physplan.specs.Keys.{key_cmp, key_in}
 use Rattle.mt_places.specs.Named.{body_key, row_key, table_of}
@@ -24,7 +25,7 @@ use Rattle.mt_places.specs.Places.{PlacesState}
 use Rattle.mt_tables.specs.Commit.{with_values}
 use Rattle.mt_tables.specs.Pages.{SlotSizes, page_count, table_at}
 use Rattle.mt_tables.specs.Plan.{IsPlan}
-use Rattle.mt_tables.specs.Rows.{KnownLayouts, body_in, catalogue_of, row_in, rows_of, sizes_of}
+use Rattle.mt_tables.specs.Rows.{IsReadableSlot, KnownLayouts, body_in, catalogue_of, row_in, rows_of, sizes_of}
 use Rattle.mt_tables.specs.Tables.{TableSlot, slots_below}
 
 -- A group so far: its ranges, where slots stand once they are written, the table of each page that it
@@ -38,11 +39,19 @@ pub record GroupState : Type 0 where
 
 -- a change that a table with this layout can have
 abbrev pub Suits : Layout → Change → Type 0
-Suits layout (Put table slot) = IsOfRows layout.head × FitsLayout layout slot
+Suits layout (Put table slot) = IsOfRows layout.head × FitsLayout layout slot × (1 ≤ slots_per_page layout)
 Suits layout (Mark table tenant row mark) = (layout.head ≡ Conventional) × IsMark Conventional mark
 Suits layout (Remove table tenant base chunk row) = IsOfRows layout.head
 Suits layout (PutCat table body) = (layout.head ≡ Catalogue table) × (length body ≡ body_width table)
 Suits layout (RemoveCat table body) = (layout.head ≡ Catalogue table) × (length body ≡ body_width table)
+
+-- a slot of the catalogue that a change puts can be read
+abbrev pub PutsReadable : Change → Type 0
+PutsReadable (Put table slot) = Unit {0}
+PutsReadable (Mark table tenant row mark) = Unit {0}
+PutsReadable (Remove table tenant base chunk row) = Unit {0}
+PutsReadable (PutCat table body) = IsBody table body
+PutsReadable (RemoveCat table body) = Unit {0}
 
 -- what a change names was asked for
 abbrev pub IsAsked : Change → PlacesState → Type 0
@@ -57,7 +66,7 @@ IsLost (PutCat table body) places = ⊥
 IsLost (RemoveCat table body) places = finite.get places.bodies (table, body) ≡ Some None
 
 -- whether a change puts a slot where none with its key stands
-abbrev pub is_new : Change → Content → Catalogue → Bool
+abbrev pub is_new : Change → Content → physical.Catalogue → Bool
 is_new (Put table slot) rows catalogue = not (finite.contains_key rows (key_in table slot))
 is_new (Mark table tenant row mark) rows catalogue = false
 is_new (Remove table tenant base chunk row) rows catalogue = false
@@ -65,7 +74,7 @@ is_new (PutCat table body) rows catalogue = not (set.contains catalogue (table, 
 is_new (RemoveCat table body) rows catalogue = false
 
 -- how many slots changes put into a table where none with their keys stood, each at its turn
-abbrev pub new_keys : ℕ → List Change → Content → Catalogue → ℕ
+abbrev pub new_keys : ℕ → List Change → Content → physical.Catalogue → ℕ
 new_keys t [] rows catalogue = 0
 new_keys t (change ∷ changes) rows catalogue =
     (if nat_eq (table_of change) t && is_new change rows catalogue then 1 else 0) + new_keys t changes (applied_by change rows) (catalogue_applied_by change catalogue)
@@ -96,5 +105,8 @@ pub record IsGroup (known : KnownLayouts) (count : ℕ) (area : Area) (start : �
   pub filled : (t : ℕ) → group.taken t + length (group.places.free t) ≡ start t + pages_of t group.added * (sizes_of known).count t
   pub needed : (t : ℕ) → 1 ≤ pages_of t group.added → length (group.places.free t) < (sizes_of known).count t
   pub used : (t : ℕ) → used_in (sizes_of known) t (count + length group.added) (with_ranges group.ranges area) + group.freed t ≡ used_in (sizes_of known) t count area + group.taken t
+  -- where each slot could be read, each can
+  pub readable : All (IsReadableSlot known) (slots_below (sizes_of known) count area) → All PutsReadable changes
+      → All (IsReadableSlot known) (slots_below (sizes_of known) (count + length group.added) (with_ranges group.ranges area))
   pub few : length group.ranges ≤ 3 * length changes
   pub short : payload_size group.ranges ≤ 4 + 12324 * length changes

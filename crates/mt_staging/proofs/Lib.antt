@@ -1,0 +1,5 @@
+pub mod Lists
+pub mod NewKeys
+pub mod Outside
+pub mod Pairs
+pub mod Slots
