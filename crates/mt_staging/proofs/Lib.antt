@@ -2,4 +2,6 @@ pub mod Lists
 pub mod NewKeys
 pub mod Outside
 pub mod Pairs
+pub mod OneSlot
 pub mod Slots
+pub mod Standing

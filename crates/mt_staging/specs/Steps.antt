@@ -1,0 +1,97 @@
+-- What the steps of a change do to a group.
+use Rattle.std.specs.Prelude.{◌≡◌, ◌⊎◌, ℕ, ◌+◌, ◌^◌, ◌<◌, nat_eq, if◌then◌else◌, List, [], ◌∷◌, ◌++◌, length, Option, None, Some}
+use Rattle.std.specs.FinMap as finite
+use Rattle.mt_rowfile.specs.declared.layout.Layout.{Layout}
+use Rattle.mt_physplan.specs.declared.key.Key.{Key}
+use Rattle.mt_pages.specs.Control.{page_ranges}
+use Rattle.mt_places.specs.Places.{PlacesState, with_free_page}
+use Rattle.mt_tables.specs.Plan.{without_first}
+use Rattle.mt_staging.specs.Group.{GroupState}
+
+-- counts by table, with one more of a table
+abbrev pub one_more_of : ℕ → (ℕ → ℕ) → ℕ → ℕ
+one_more_of table counts t = if nat_eq t table then counts t + 1 else counts t
+
+-- one range more
+abbrev pub with_write : ℕ → List ℕ → GroupState → GroupState
+with_write position bytes group = record {
+  ranges = group.ranges ++ record { position = position; bytes = bytes } ∷ [];
+  places = group.places;
+  added = group.added;
+  taken = group.taken;
+  freed = group.freed;
+}
+
+-- other places
+abbrev pub with_places : PlacesState → GroupState → GroupState
+with_places places group = record { ranges = group.ranges; places = places; added = group.added; taken = group.taken; freed = group.freed }
+
+-- where a row stands from now on, if anywhere
+abbrev pub with_row : Key → Option ℕ → GroupState → GroupState
+with_row key place group = with_places (record {
+  named = group.places.named;
+  rows = finite.insert group.places.rows key place;
+  bodies = group.places.bodies;
+  free = group.places.free;
+  wanted = group.places.wanted;
+}) group
+
+-- where a slot of the catalogue stands from now on, if anywhere
+abbrev pub with_body : ℕ × List ℕ → Option ℕ → GroupState → GroupState
+with_body body place group = with_places (record {
+  named = group.places.named;
+  rows = group.places.rows;
+  bodies = finite.insert group.places.bodies body place;
+  free = group.places.free;
+  wanted = group.places.wanted;
+}) group
+
+-- other free positions
+abbrev pub with_free : (ℕ → List ℕ) → GroupState → GroupState
+with_free free group = with_places (record {
+  named = group.places.named;
+  rows = group.places.rows;
+  bodies = group.places.bodies;
+  free = free;
+  wanted = group.places.wanted;
+}) group
+
+-- a slot more of a table was taken, or freed
+abbrev pub one_taken : ℕ → GroupState → GroupState
+one_taken table group = record { ranges = group.ranges; places = group.places; added = group.added; taken = one_more_of table group.taken; freed = group.freed }
+
+abbrev pub one_freed : ℕ → GroupState → GroupState
+one_freed table group = record { ranges = group.ranges; places = group.places; added = group.added; taken = group.taken; freed = one_more_of table group.freed }
+
+-- a page of a table more, behind so many pages that count and those that the group makes
+abbrev pub page_made : Layout → ℕ → ℕ → GroupState → GroupState
+page_made layout table count group = record {
+  ranges = group.ranges ++ page_ranges table (count + length group.added);
+  places = record {
+    named = group.places.named;
+    rows = group.places.rows;
+    bodies = group.places.bodies;
+    free = with_free_page layout table (count + length group.added) group.places.free;
+    wanted = group.places.wanted;
+  };
+  added = group.added ++ table ∷ [];
+  taken = group.taken;
+  freed = group.freed;
+}
+
+-- the first free position of a table was taken
+pub record TakesFirst (table position : ℕ) (old new : GroupState) : Type 0 where
+  pub behind : List ℕ
+  pub first : old.places.free table ≡ position ∷ behind
+  pub rest : new ≡ with_free (without_first table old.places.free) old
+
+-- a page of a table was made, since none of its slots was free
+pub record MakesPage (layout : Layout) (table count : ℕ) (old new : GroupState) : Type 0 where
+  pub none_left : old.places.free table ≡ []
+  pub few : count + length old.added < 2 ^ 28
+  pub page : new ≡ page_made layout table count old
+
+-- A position was found for a slot: the first free one or, where there is none, that of a new page.
+abbrev pub FindsFree : Layout → ℕ → ℕ → ℕ → GroupState → GroupState → Type 0
+FindsFree layout table count position old new =
+    TakesFirst table position old new ⊎ ((between : GroupState) × MakesPage layout table count old between × TakesFirst table position between new)
