@@ -18,14 +18,14 @@ use Rattle.mt_physplan.proofs.Keys.{keys_exact, keys_total}
 use Rattle.mt_tables.specs.Commit.{with_value, with_values}
 use Rattle.mt_tables.specs.Pages.{SlotPlace, bytes_at}
 use Rattle.mt_tables.specs.Plan.{AreFree, IsPlan, Says, without_first}
-use Rattle.mt_tables.specs.Rows.{KnownLayouts, body_in, catalogue_of, is_of_catalogue, layout_of, row_in, rows_of, sizes_of}
+use Rattle.mt_tables.specs.Rows.{IsReadableSlot, KnownLayouts, body_in, catalogue_of, is_of_catalogue, layout_of, row_in, rows_of, sizes_of}
 use Rattle.mt_tables.specs.Tables.{overwritten, slot_at}
 use Rattle.mt_tables.proofs.Bodies.{bodies_exact, bodies_total}
 use Rattle.mt_tables.proofs.Plans.{plan_removed, plan_rewritten, plan_taken}
 use Rattle.mt_tables.proofs.Readings.{body_elsewhere, row_catalogue}
 use Rattle.mt_tables.proofs.Sizes.{sizes_sound}
 use Rattle.mt_tables.proofs.Steps.{with_values-last}
-use Rattle.mt_staging.specs.Group.{GroupState}
+use Rattle.mt_staging.specs.Group.{GroupState, PutsReadable}
 use Rattle.mt_staging.specs.Steps.{one_freed, one_more_of, one_taken, with_body, with_free, with_row, with_write}
 use Rattle.mt_staging.proofs.Lists.{once, same_number}
 use Rattle.mt_staging.proofs.NewKeys.{newly}
@@ -90,8 +90,9 @@ module _ (known : KnownLayouts) (count total : ℕ) (area : Area) (changes : Lis
 
     pub row_rewritten : (p : ℕ) (cell : Cell) (bytes : List ℕ) → finite.get group.places.rows key ≡ Some (Some p) → length bytes ≤ width key.table
         → row_in known (key.table, overwritten bytes (bytes_at before p (width key.table))) ≡ Some (key, cell) → Effects (key, Some cell) (λ t. 0)
+        → (IsReadableSlot known (key.table, bytes_at before p (width key.table)) → PutsReadable change → IsReadableSlot known (key.table, overwritten bytes (bytes_at before p (width key.table))))
         → Stands known count total area (changes ++ change ∷ []) (with_write p bytes group)
-    row_rewritten p cell bytes is short says effects =
+    row_rewritten p cell bytes is short says effects reads =
         let held = s.rows.held key p is in
         let old_says = said_there (sizes_of known) (row_in known) total before (there p) (Some (key, held.0)) held.1 in
         one_more_stands known count total area changes change group (with_write p bytes group) (λ t. nat_eq key.table t) (λ t. nat_eq key.table t) s (record {
@@ -111,13 +112,15 @@ module _ (known : KnownLayouts) (count total : ℕ) (area : Area) (changes : Lis
           was_used = λ t. uses_used t key.table (bytes_at before p (width key.table)) (row_is_used known (slot_at (sizes_of known) before (there p)) (key, held.0) old_says);
           is_used = λ t. uses_used t key.table (overwritten bytes (bytes_at before p (width key.table))) (row_is_used known (key.table, overwritten bytes (bytes_at before p (width key.table))) (key, cell) says);
           takes = λ t. let e = effects.2 t in omega (arith, e);
+          reads = reads;
           balance = λ t. refl;
         })
 
     pub row_taken : (p : ℕ) (rest : List ℕ) (cell : Cell) (bytes : List ℕ) → group.places.free key.table ≡ p ∷ rest → finite.get group.places.rows key ≡ Some None → length bytes ≤ width key.table
         → row_in known (key.table, overwritten bytes (bytes_at before p (width key.table))) ≡ Some (key, cell) → Effects (key, Some cell) (λ t. once (nat_eq key.table t))
+        → (IsReadableSlot known (key.table, bytes_at before p (width key.table)) → PutsReadable change → IsReadableSlot known (key.table, overwritten bytes (bytes_at before p (width key.table))))
         → Stands known count total area (changes ++ change ∷ []) (one_taken key.table (with_write p bytes (with_row key (Some p) (with_free (without_first key.table group.places.free) group))))
-    row_taken p rest cell bytes first none short says effects =
+    row_taken p rest cell bytes first none short says effects reads =
         let all : AreFree (sizes_of known) (row_in known) total before key.table (p ∷ rest) = subst (AreFree (sizes_of known) (row_in known) total before key.table) first (s.rows.are_free key.table) in
         let old_says = said_there (sizes_of known) (row_in known) total before (there p) None all.0 in
         let new : GroupState = one_taken key.table (with_write p bytes (with_row key (Some p) (with_free (without_first key.table group.places.free) group))) in
@@ -137,13 +140,15 @@ module _ (known : KnownLayouts) (count total : ℕ) (area : Area) (changes : Lis
           was_used = λ t. uses_free t key.table (bytes_at before p (width key.table)) (row_is_free known key.table (bytes_at before p (width key.table)) layout found rows old_says);
           is_used = λ t. uses_used t key.table (overwritten bytes (bytes_at before p (width key.table))) (row_is_used known (key.table, overwritten bytes (bytes_at before p (width key.table))) (key, cell) says);
           takes = λ t. let e = effects.2 t in let m = one_more key.table group.taken t in omega (arith, e, m);
+          reads = reads;
           balance = λ t. let m = one_more key.table group.taken t in omega (arith, m);
         })
 
     pub row_removed : (p : ℕ) (bytes : List ℕ) → finite.get group.places.rows key ≡ Some (Some p) → length bytes ≤ width key.table
         → is_free (overwritten bytes (bytes_at before p (width key.table))) ≡ true → row_in known (key.table, overwritten bytes (bytes_at before p (width key.table))) ≡ None → Effects (key, None) (λ t. 0)
+        → (IsReadableSlot known (key.table, bytes_at before p (width key.table)) → PutsReadable change → IsReadableSlot known (key.table, overwritten bytes (bytes_at before p (width key.table))))
         → Stands known count total area (changes ++ change ∷ []) (one_freed key.table (with_row key None (with_write p bytes group)))
-    row_removed p bytes is short free says effects =
+    row_removed p bytes is short free says effects reads =
         let held = s.rows.held key p is in
         let old_says = said_there (sizes_of known) (row_in known) total before (there p) (Some (key, held.0)) held.1 in
         let new : GroupState = one_freed key.table (with_row key None (with_write p bytes group)) in
@@ -164,6 +169,7 @@ module _ (known : KnownLayouts) (count total : ℕ) (area : Area) (changes : Lis
           was_used = λ t. uses_used t key.table (bytes_at before p (width key.table)) (row_is_used known (slot_at (sizes_of known) before (there p)) (key, held.0) old_says);
           is_used = λ t. uses_free t key.table (overwritten bytes (bytes_at before p (width key.table))) free;
           takes = λ t. let e = effects.2 t in omega (arith, e);
+          reads = reads;
           balance = λ t. let m = one_more key.table group.freed t in omega (arith, m);
         })
 
@@ -176,8 +182,9 @@ module _ (known : KnownLayouts) (count total : ℕ) (area : Area) (changes : Lis
 
     pub body_rewritten : (p : ℕ) (bytes : List ℕ) → finite.get group.places.bodies key ≡ Some (Some p) → length bytes ≤ width key.0
         → body_in (key.0, overwritten bytes (bytes_at before p (width key.0))) ≡ Some (key, tt) → BodyEffects (key, Some tt) (λ t. 0)
+        → (IsReadableSlot known (key.0, bytes_at before p (width key.0)) → PutsReadable change → IsReadableSlot known (key.0, overwritten bytes (bytes_at before p (width key.0))))
         → Stands known count total area (changes ++ change ∷ []) (with_write p bytes group)
-    body_rewritten p bytes is short says effects =
+    body_rewritten p bytes is short says effects reads =
         let held = s.bodies.held key p is in
         let old_says = said_there (sizes_of known) body_in total before (place_at p) (Some (key, held.0)) held.1 in
         one_more_stands known count total area changes change group (with_write p bytes group) (λ t. nat_eq key.0 t) (λ t. nat_eq key.0 t) s (record {
@@ -197,13 +204,15 @@ module _ (known : KnownLayouts) (count total : ℕ) (area : Area) (changes : Lis
           was_used = λ t. uses_used t key.0 (bytes_at before p (width key.0)) (body_is_used (slot_at (sizes_of known) before (place_at p)) (key, held.0) old_says);
           is_used = λ t. uses_used t key.0 (overwritten bytes (bytes_at before p (width key.0))) (body_is_used (key.0, overwritten bytes (bytes_at before p (width key.0))) (key, tt) says);
           takes = λ t. let e = effects.2 t in omega (arith, e);
+          reads = reads;
           balance = λ t. refl;
         })
 
     pub body_taken : (p : ℕ) (rest : List ℕ) (bytes : List ℕ) → group.places.free key.0 ≡ p ∷ rest → finite.get group.places.bodies key ≡ Some None → length bytes ≤ width key.0
         → body_in (key.0, overwritten bytes (bytes_at before p (width key.0))) ≡ Some (key, tt) → BodyEffects (key, Some tt) (λ t. once (nat_eq key.0 t))
+        → (IsReadableSlot known (key.0, bytes_at before p (width key.0)) → PutsReadable change → IsReadableSlot known (key.0, overwritten bytes (bytes_at before p (width key.0))))
         → Stands known count total area (changes ++ change ∷ []) (one_taken key.0 (with_write p bytes (with_body key (Some p) (with_free (without_first key.0 group.places.free) group))))
-    body_taken p rest bytes first none short says effects =
+    body_taken p rest bytes first none short says effects reads =
         let all : AreFree (sizes_of known) body_in total before key.0 (p ∷ rest) = subst (AreFree (sizes_of known) body_in total before key.0) first (s.bodies.are_free key.0) in
         let old_says = said_there (sizes_of known) body_in total before (place_at p) None all.0 in
         let new : GroupState = one_taken key.0 (with_write p bytes (with_body key (Some p) (with_free (without_first key.0 group.places.free) group))) in
@@ -223,13 +232,15 @@ module _ (known : KnownLayouts) (count total : ℕ) (area : Area) (changes : Lis
           was_used = λ t. uses_free t key.0 (bytes_at before p (width key.0)) (body_is_free key.0 (bytes_at before p (width key.0)) kept old_says);
           is_used = λ t. uses_used t key.0 (overwritten bytes (bytes_at before p (width key.0))) (body_is_used (key.0, overwritten bytes (bytes_at before p (width key.0))) (key, tt) says);
           takes = λ t. let e = effects.2 t in let m = one_more key.0 group.taken t in omega (arith, e, m);
+          reads = reads;
           balance = λ t. let m = one_more key.0 group.taken t in omega (arith, m);
         })
 
     pub body_removed : (p : ℕ) (bytes : List ℕ) → finite.get group.places.bodies key ≡ Some (Some p) → length bytes ≤ width key.0
         → is_free (overwritten bytes (bytes_at before p (width key.0))) ≡ true → body_in (key.0, overwritten bytes (bytes_at before p (width key.0))) ≡ None → BodyEffects (key, None) (λ t. 0)
+        → (IsReadableSlot known (key.0, bytes_at before p (width key.0)) → PutsReadable change → IsReadableSlot known (key.0, overwritten bytes (bytes_at before p (width key.0))))
         → Stands known count total area (changes ++ change ∷ []) (one_freed key.0 (with_body key None (with_write p bytes group)))
-    body_removed p bytes is short free says effects =
+    body_removed p bytes is short free says effects reads =
         let held = s.bodies.held key p is in
         let old_says = said_there (sizes_of known) body_in total before (place_at p) (Some (key, held.0)) held.1 in
         let new : GroupState = one_freed key.0 (with_body key None (with_write p bytes group)) in
@@ -250,5 +261,6 @@ module _ (known : KnownLayouts) (count total : ℕ) (area : Area) (changes : Lis
           was_used = λ t. uses_used t key.0 (bytes_at before p (width key.0)) (body_is_used (slot_at (sizes_of known) before (place_at p)) (key, held.0) old_says);
           is_used = λ t. uses_free t key.0 (overwritten bytes (bytes_at before p (width key.0))) free;
           takes = λ t. let e = effects.2 t in omega (arith, e);
+          reads = reads;
           balance = λ t. let m = one_more key.0 group.freed t in omega (arith, m);
         })

@@ -1,6 +1,7 @@
 -- What stands once the ranges of a group are written, and what one range more does to it.
-use Rattle.std.proofs.Common.{◌≡◌, ℕ, zero, suc, ◌+◌, ◌*◌, ◌<◌, ◌≤◌, ◌&&◌, Bool, true, false, not, cond, nat_eq, List, [], ◌∷◌, ◌++◌, length, get_or, set, slice_index, count_by, Option, None, Some, refl, sym, ap, ◌∙◌, arith, subst}
+use Rattle.std.proofs.Common.{◌≡◌, ℕ, zero, suc, ◌+◌, ◌*◌, ◌<◌, ◌≤◌, ◌&&◌, Bool, true, false, not, cond, nat_eq, List, [], ◌∷◌, ◌++◌, length, get_or, set, slice_index, count_by, All, Option, None, Some, refl, sym, ap, ◌∙◌, arith, subst}
 use Rattle.std.proofs.lemmas.Bool.Decides.{nat_tests}
+use Rattle.std.proofs.lemmas.List.Elements.{All-cons, All-get_or, All-head, All-nil, All-set, All-tail}
 use Rattle.std.specs.FinMap as finite
 use Rattle.mt_journal.specs.Layout.{Area, Range}
 use Rattle.mt_journal.specs.Replay.{with_ranges}
@@ -13,14 +14,14 @@ use Rattle.mt_physplan.specs.Keys.{key_cmp}
 use Rattle.mt_tables.specs.Commit.{with_values}
 use Rattle.mt_tables.specs.Pages.{SlotPlace, bytes_at, page_count, table_at}
 use Rattle.mt_tables.specs.Plan.{IsPlan, Says}
-use Rattle.mt_tables.specs.Rows.{KnownLayouts, body_in, catalogue_of, row_in, rows_of, sizes_of}
+use Rattle.mt_tables.specs.Rows.{IsReadableSlot, KnownLayouts, body_in, catalogue_of, row_in, rows_of, sizes_of}
 use Rattle.mt_tables.specs.Tables.{TableSlot, overwritten, slot_at, slots_below}
 use Rattle.mt_tables.proofs.Bytes.{put_at}
 use Rattle.mt_tables.proofs.Places.{IsInPage}
 use Rattle.mt_tables.proofs.Plans.{among_slots, at_of}
 use Rattle.mt_tables.proofs.Sizes.{sizes_sound}
 use Rattle.mt_tables.proofs.Steps.{StandsAt, slot_after, with_ranges-last, written}
-use Rattle.mt_staging.specs.Group.{GroupState, new_keys, used_in}
+use Rattle.mt_staging.specs.Group.{GroupState, PutsReadable, new_keys, used_in}
 use Rattle.mt_staging.proofs.Lists.{count_by-set, once}
 use Rattle.mt_staging.proofs.NewKeys.{applied-last, catalogue_applied-last, new_keys-last, newly}
 use Rattle.mt_staging.proofs.Outside.{count_stands, head_stands}
@@ -39,6 +40,16 @@ pub record Stands (known : KnownLayouts) (count total : ℕ) (area : Area) (chan
   pub tables_added : (i : ℕ) → i < length group.added → table_at (with_ranges group.ranges area) (count + i) ≡ slice_index group.added i
   pub taken : (t : ℕ) → group.taken t ≡ new_keys t changes (rows_of known area) (catalogue_of known area)
   pub used : (t : ℕ) → used_in (sizes_of known) t total (with_ranges group.ranges area) + group.freed t ≡ used_in (sizes_of known) t count area + group.taken t
+  pub readable : All (IsReadableSlot known) (slots_below (sizes_of known) count area) → All PutsReadable changes → All (IsReadableSlot known) (slots_below (sizes_of known) total (with_ranges group.ranges area))
+
+-- what holds of all holds of those in front, and of those behind
+pub all_front : {X : Type 0} (P : X → Type 0) (xs ys : List X) → All P (xs ++ ys) → All P xs
+all_front P [] ys all = All-nil P
+all_front P (x ∷ xs) ys all = All-cons P x xs (All-head P x (xs ++ ys) all) (all_front P xs ys (All-tail P x (xs ++ ys) all))
+
+pub all_behind : {X : Type 0} (P : X → Type 0) (xs ys : List X) → All P (xs ++ ys) → All P ys
+all_behind P [] ys all = all
+all_behind P (x ∷ xs) ys all = all_behind P xs ys (All-tail P x (xs ++ ys) all)
 
 -- whether a slot of a table is in use
 abbrev pub uses : ℕ → ℕ → List ℕ → Bool
@@ -102,6 +113,8 @@ pub record IsOneMore (known : KnownLayouts) (total : ℕ) (area : Area) (changes
   pub was_used : (t : ℕ) → uses t place.table (slot_at (sizes_of known) (with_ranges old.ranges area) place).1 ≡ was t
   pub is_used : (t : ℕ) → uses t place.table (overwritten bytes (slot_at (sizes_of known) (with_ranges old.ranges area) place).1) ≡ is t
   pub takes : (t : ℕ) → new.taken t ≡ old.taken t + newly t change (applied changes (rows_of known area)) (catalogue_applied changes (catalogue_of known area))
+  pub reads : IsReadableSlot known (slot_at (sizes_of known) (with_ranges old.ranges area) place) → PutsReadable change
+      → IsReadableSlot known (place.table, overwritten bytes (slot_at (sizes_of known) (with_ranges old.ranges area) place).1)
   pub balance : (t : ℕ) → new.freed t + once (is t) + old.taken t ≡ old.freed t + once (was t) + new.taken t
 
 balanced : (used0 used1 used2 taken1 taken2 freed1 freed2 was is : ℕ) → used2 + was ≡ used1 + is → used1 + freed1 ≡ used0 + taken1 → freed2 + is + taken1 ≡ freed1 + was + taken2 → used2 + freed2 ≡ used0 + taken2
@@ -134,4 +147,12 @@ one_more_stands known count total area changes change old new was is s more =
           ap (λ (a : Area). used_in (sizes_of known) t total a + new.freed t) last
           ∙ balanced (used_in (sizes_of known) t count area) (used_in (sizes_of known) t total before) (used_in (sizes_of known) t total (put_at more.place.position more.bytes before))
           (old.taken t) (new.taken t) (old.freed t) (new.freed t) (once (was t)) (once (is t)) uses_then (s.used t) (more.balance t);
+      readable = λ good puts.
+          let slots = slots_below (sizes_of known) total before in
+          let d : TableSlot = (0, []) in
+          let each = s.readable good (all_front PutsReadable changes (change ∷ []) puts) in
+          let here : IsReadableSlot known (slot_at (sizes_of known) before more.place) = subst (IsReadableSlot known) (more.here.slot d) (All-get_or (IsReadableSlot known) slots more.here.number d more.here.among each) in
+          let puts_it : PutsReadable change = All-head PutsReadable change [] (all_behind PutsReadable changes (change ∷ []) puts) in
+          subst (All (IsReadableSlot known)) (sym (ap (λ (a : Area). slots_below (sizes_of known) total a) last ∙ written (sizes_of known) (sizes_sound known) total before more.here.number more.place more.bytes more.here.stands more.short))
+          (All-set (IsReadableSlot known) slots more.here.number (slot_after (sizes_of known) (sizes_sound known) total before more.place more.bytes) (more.reads here puts_it) each);
     }
