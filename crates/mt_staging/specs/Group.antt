@@ -2,7 +2,6 @@
 -- is written.
 use Rattle.std.specs.Prelude.{◌≡◌, ◌⊎◌, ℕ, ◌+◌, ◌*◌, ◌^◌, ◌<◌, ◌≤◌, ◌&&◌, nat_eq, Bool, true, false, not, if◌then◌else◌, List, [], ◌∷◌, length, slice_index, count_by, All, Option, None, Some}
 use Rattle.std.specs.FinMap as finite
-use Rattle.std.specs.FinSet as set
 use Rattle.mt_journal.specs.Commits.{payload_size}
 use Rattle.mt_journal.specs.Layout.{Area, Range}
 use Rattle.mt_journal.specs.Replay.{with_ranges}
@@ -70,7 +69,7 @@ abbrev pub is_new : Change → Content → physical.Catalogue → Bool
 is_new (Put table slot) rows catalogue = not (finite.contains_key rows (key_in table slot))
 is_new (Mark table tenant row mark) rows catalogue = false
 is_new (Remove table tenant base chunk row) rows catalogue = false
-is_new (PutCat table body) rows catalogue = not (set.contains catalogue (table, body))
+is_new (PutCat table body) rows catalogue = not (finite.contains_key catalogue (table, body))
 is_new (RemoveCat table body) rows catalogue = false
 
 -- how many slots changes put into a table where none with their keys stood, each at its turn
