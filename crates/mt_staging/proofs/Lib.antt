@@ -1,3 +1,4 @@
+pub mod Groups
 pub mod Lists
 pub mod NewKeys
 pub mod Outside

@@ -47,7 +47,7 @@ uses_free t table bytes free = ap (λ b. nat_eq table t && not b) free ∙ and_f
     and_false true = refl
     and_false false = refl
 
-one_more : (table : ℕ) (counts : ℕ → ℕ) (t : ℕ) → one_more_of table counts t ≡ counts t + once (nat_eq table t)
+pub one_more : (table : ℕ) (counts : ℕ → ℕ) (t : ℕ) → one_more_of table counts t ≡ counts t + once (nat_eq table t)
 one_more table counts t = ap (λ b. cond b (counts t + 1) (counts t)) (same_number t table) ∙ by (nat_eq table t)
   where
     by : (b : Bool) → cond b (counts t + 1) (counts t) ≡ counts t + once b

@@ -14,7 +14,7 @@ use Rattle.mt_rowfile.specs.Slots.{IsSlot}
 use Rattle.mt_physplan.specs.declared.change.Change.{Change}
 use Rattle.mt_physplan.specs.Applied.{body_cmp}
 use Rattle.mt_physplan.specs.Keys.{key_cmp}
-use Rattle.mt_pages.specs.Control.{control_bytes, page_bytes, page_ranges}
+use Rattle.mt_pages.specs.Control.{IsPageZero, page_bytes, page_ranges}
 use Rattle.mt_pages.proofs.Made.{counted_then, new_page}
 use Rattle.mt_places.specs.Places.{with_free_page}
 use Rattle.mt_tables.specs.Commit.{IsNewPage}
@@ -31,7 +31,7 @@ use Rattle.mt_tables.proofs.Written.{blank_slot, page_added}
 use Rattle.mt_staging.specs.Group.{GroupState, used_in}
 use Rattle.mt_staging.specs.Steps.{page_made}
 use Rattle.mt_staging.proofs.Lists.{count_by-append, count_by-none}
-use Rattle.mt_staging.proofs.Outside.{heads_before, with_ranges-append}
+use Rattle.mt_staging.proofs.Outside.{heads_before, with_ranges-append, zero_written}
 use Rattle.mt_staging.proofs.Standing.{Stands, uses}
 
 zero_first : (n : ℕ) → (slice_index (replicate n 0) 0 == 0) ≡ true
@@ -113,6 +113,7 @@ module _ (known : KnownLayouts) (count : ℕ) (area : Area) (changes : List Chan
         tables_added = tables_then new is s.tables_added some;
         taken = s.taken;
         used = λ t. ap (λ n. n + group.freed t) (page_unused new is t) ∙ s.used t;
+        page_zero = λ sound. subst IsPageZero (sym last) (zero_written (total + 1) (put_at (4096 * total) (page_bytes table) before) (omega arith) (omega (arith, few)));
         readable = λ good puts. subst (All (IsReadableSlot known)) (sym (page_added (sizes_of known) (sizes_sound known) total before new table is))
             (All-append (IsReadableSlot known) (slots_below (sizes_of known) total before) (replicate ((sizes_of known).count table) (blank_slot (sizes_of known) table)) (s.readable good puts)
             (All-replicate (IsReadableSlot known) ((sizes_of known).count table) (blank_slot (sizes_of known) table) (blank_readable (layout_of known table))));

@@ -11,6 +11,7 @@ use Rattle.mt_physplan.specs.declared.key.Cell.{Cell}
 use Rattle.mt_physplan.specs.declared.key.Key.{Key}
 use Rattle.mt_physplan.specs.Applied.{applied, applied_by, body_cmp, catalogue_applied, catalogue_applied_by}
 use Rattle.mt_physplan.specs.Keys.{key_cmp}
+use Rattle.mt_pages.specs.Control.{IsPageZero}
 use Rattle.mt_tables.specs.Commit.{with_values}
 use Rattle.mt_tables.specs.Pages.{SlotPlace, bytes_at, page_count, table_at}
 use Rattle.mt_tables.specs.Plan.{IsPlan, Says}
@@ -24,7 +25,7 @@ use Rattle.mt_tables.proofs.Steps.{StandsAt, slot_after, with_ranges-last, writt
 use Rattle.mt_staging.specs.Group.{GroupState, PutsReadable, new_keys, used_in}
 use Rattle.mt_staging.proofs.Lists.{count_by-set, once}
 use Rattle.mt_staging.proofs.NewKeys.{applied-last, catalogue_applied-last, new_keys-last, newly}
-use Rattle.mt_staging.proofs.Outside.{count_stands, head_stands}
+use Rattle.mt_staging.proofs.Outside.{count_stands, head_stands, zero_stands, zero_still}
 use Rattle.mt_staging.proofs.Pairs.{slot_there}
 
 -- The part of a group that speaks of its ranges, where so many pages count in all.
@@ -40,6 +41,7 @@ pub record Stands (known : KnownLayouts) (count total : ℕ) (area : Area) (chan
   pub tables_added : (i : ℕ) → i < length group.added → table_at (with_ranges group.ranges area) (count + i) ≡ slice_index group.added i
   pub taken : (t : ℕ) → group.taken t ≡ new_keys t changes (rows_of known area) (catalogue_of known area)
   pub used : (t : ℕ) → used_in (sizes_of known) t total (with_ranges group.ranges area) + group.freed t ≡ used_in (sizes_of known) t count area + group.taken t
+  pub page_zero : IsPageZero area → IsPageZero (with_ranges group.ranges area)
   pub readable : All (IsReadableSlot known) (slots_below (sizes_of known) count area) → All PutsReadable changes → All (IsReadableSlot known) (slots_below (sizes_of known) total (with_ranges group.ranges area))
 
 -- what holds of all holds of those in front, and of those behind
@@ -65,6 +67,9 @@ module _ (known : KnownLayouts) (total : ℕ) (old : Area) (i : ℕ) (place : Sl
 
   pub heads_then : (m : ℕ) → table_at (put_at place.position bytes old) m ≡ table_at old m
   heads_then m = head_stands (sizes_of known) old at.page place.position bytes inside m
+
+  pub zero_then : IsPageZero old → IsPageZero (put_at place.position bytes old)
+  zero_then sound = zero_still old (put_at place.position bytes old) (zero_stands (sizes_of known) old at.page place.position bytes inside) sound
 
   -- and changes the count of those in use by its own use
   pub used_then : ((d : TableSlot) → get_or (slots_below (sizes_of known) total old) i d ≡ slot_at (sizes_of known) old place) → i < length (slots_below (sizes_of known) total old) → (t : ℕ)
@@ -147,6 +152,7 @@ one_more_stands known count total area changes change old new was is s more =
           ap (λ (a : Area). used_in (sizes_of known) t total a + new.freed t) last
           ∙ balanced (used_in (sizes_of known) t count area) (used_in (sizes_of known) t total before) (used_in (sizes_of known) t total (put_at more.place.position more.bytes before))
           (old.taken t) (new.taken t) (old.freed t) (new.freed t) (once (was t)) (once (is t)) uses_then (s.used t) (more.balance t);
+      page_zero = λ sound. subst IsPageZero (sym last) (zero_then known total before more.here.number more.place more.bytes more.here.stands more.short (s.page_zero sound));
       readable = λ good puts.
           let slots = slots_below (sizes_of known) total before in
           let d : TableSlot = (0, []) in

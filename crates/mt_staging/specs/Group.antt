@@ -19,6 +19,7 @@ use Rattle.mt_physplan.specs.Applied as physical
 use Rattle.mt_physplan.specs.Applied.{applied, applied_by, body_cmp, catalogue_applied, catalogue_applied_by}
 use Rattle.mt_physplan.specs.Content.{Content}
 use Rattle.mt_physplan.specs.Keys.{key_cmp, key_in}
+use Rattle.mt_pages.specs.Control.{IsPageZero}
 use Rattle.mt_places.specs.Named.{body_key, row_key, table_of}
 use Rattle.mt_places.specs.Places.{PlacesState}
 use Rattle.mt_tables.specs.Commit.{with_values}
@@ -64,6 +65,14 @@ IsLost (Remove table tenant base chunk row) places = (key : Key) × (row_key (Re
 IsLost (PutCat table body) places = ⊥
 IsLost (RemoveCat table body) places = finite.get places.bodies (table, body) ≡ Some None
 
+-- A slot is put where none with its key stands, and no slot of its table is free.
+abbrev pub NeedsPage : Change → PlacesState → Type 0
+NeedsPage (Put table slot) places = (finite.get places.rows (key_in table slot) ≡ Some None) × (places.free table ≡ [])
+NeedsPage (Mark table tenant row mark) places = ⊥
+NeedsPage (Remove table tenant base chunk row) places = ⊥
+NeedsPage (PutCat table body) places = (finite.get places.bodies (table, body) ≡ Some None) × (places.free table ≡ [])
+NeedsPage (RemoveCat table body) places = ⊥
+
 -- whether a change puts a slot where none with its key stands
 abbrev pub is_new : Change → Content → physical.Catalogue → Bool
 is_new (Put table slot) rows catalogue = not (finite.contains_key rows (key_in table slot))
@@ -107,5 +116,9 @@ pub record IsGroup (known : KnownLayouts) (count : ℕ) (area : Area) (start : �
   -- where each slot could be read, each can
   pub readable : All (IsReadableSlot known) (slots_below (sizes_of known) count area) → All PutsReadable changes
       → All (IsReadableSlot known) (slots_below (sizes_of known) (count + length group.added) (with_ranges group.ranges area))
+  -- page 0 counts pages where it did, and the pages that are made are of tables that there are
+  pub page_zero : IsPageZero area → IsPageZero (with_ranges group.ranges area)
+  pub tables_few : (i : ℕ) → i < length group.added → slice_index group.added i < 32
+  pub pages_few : count + length group.added ≤ 2 ^ 28
   pub few : length group.ranges ≤ 3 * length changes
   pub short : payload_size group.ranges ≤ 4 + 12324 * length changes
