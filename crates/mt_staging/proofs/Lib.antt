@@ -1,4 +1,6 @@
+pub mod Effects
 pub mod Groups
+pub mod Keys
 pub mod Lists
 pub mod NewKeys
 pub mod Outside

@@ -95,3 +95,27 @@ pub record MakesPage (layout : Layout) (table count : ℕ) (old new : GroupState
 abbrev pub FindsFree : Layout → ℕ → ℕ → ℕ → GroupState → GroupState → Type 0
 FindsFree layout table count position old new =
     TakesFirst table position old new ⊎ ((between : GroupState) × MakesPage layout table count old between × TakesFirst table position between new)
+
+-- a slot is written over the one that stands
+pub record WritesOver (place : Option (Option ℕ)) (bytes : List ℕ) (old new : GroupState) : Type 0 where
+  pub position : ℕ
+  pub stands : place ≡ Some (Some position)
+  pub written : new ≡ with_write position bytes old
+
+-- a slot that stands nowhere is written where one is free
+pub record WritesFree (layout : Layout) (table count : ℕ) (place : Option (Option ℕ)) (bytes : List ℕ) (placed : Option ℕ → GroupState → GroupState) (old new : GroupState) : Type 0 where
+  pub position : ℕ
+  pub between : GroupState
+  pub nowhere : place ≡ Some None
+  pub found : FindsFree layout table count position old between
+  pub written : new ≡ one_taken table (with_write position bytes (placed (Some position) between))
+
+-- a slot is put
+abbrev pub PutsSlot : Layout → ℕ → ℕ → Option (Option ℕ) → List ℕ → (Option ℕ → GroupState → GroupState) → GroupState → GroupState → Type 0
+PutsSlot layout table count place bytes placed old new = WritesOver place bytes old new ⊎ WritesFree layout table count place bytes placed old new
+
+-- the mark of a slot that stands is taken away
+pub record TakesAway (table : ℕ) (place : Option (Option ℕ)) (placed : Option ℕ → GroupState → GroupState) (old new : GroupState) : Type 0 where
+  pub position : ℕ
+  pub stands : place ≡ Some (Some position)
+  pub written : new ≡ one_freed table (placed None (with_write position (0 ∷ []) old))
