@@ -1,5 +1,6 @@
 pub mod Effects
 pub mod Groups
+pub mod Keeps
 pub mod Keys
 pub mod Lists
 pub mod NewKeys

@@ -1,0 +1,137 @@
+-- Each kind of change keeps a group: its ranges then make that change too.
+use Rattle.std.proofs.Common.{◌≡◌, ℕ, ◌+◌, ◌*◌, ◌^◌, ◌<◌, ◌≤◌, ◌==◌, Bool, true, false, nat_eq, List, [], ◌∷◌, ◌++◌, length, slice_index, Option, None, Some, refl, sym, ap, ◌∙◌, inl, inr, arith, subst, length-append}
+use Rattle.std.proofs.lemmas.Bool.Decides.{nat_tests}
+use Rattle.std.specs.FinMap as finite
+use Rattle.mt_journal.specs.Layout.{Area, Range}
+use Rattle.mt_journal.specs.Replay.{with_ranges}
+use Rattle.mt_rowfile.specs.declared.layout.Head.TheVariants.{Catalogue, Conventional}
+use Rattle.mt_rowfile.specs.declared.layout.Layout.{Layout}
+use Rattle.mt_rowfile.specs.declared.slot.SlotRow.{SlotRow}
+use Rattle.mt_rowfile.specs.Fields.{AreKinds}
+use Rattle.mt_rowfile.specs.Layouts.{IsLayout, IsOfRows, body_width, slots_per_page}
+use Rattle.mt_rowfile.specs.Slots.{FitsLayout, HasNumbers, IsMark, slot_bytes}
+use Rattle.mt_physplan.specs.declared.change.Change.{Change}
+use Rattle.mt_physplan.specs.declared.change.Change.TheVariants.{Put, Mark, Remove, PutCat, RemoveCat}
+use Rattle.mt_physplan.specs.declared.key.Cell.{Cell}
+use Rattle.mt_physplan.specs.declared.key.Key.{Key}
+use Rattle.mt_physplan.specs.Applied.{applied, body_cmp, catalogue_applied, with_mark}
+use Rattle.mt_physplan.specs.Keys.{cell_of, conventional_key, key_cmp, key_in}
+use Rattle.mt_physplan.proofs.Keys.{keys_total}
+use Rattle.mt_tables.specs.Pages.{SlotPlace, bytes_at}
+use Rattle.mt_tables.specs.Plan.{without_first}
+use Rattle.mt_tables.specs.Rows.{IsReadableSlot, KnownLayouts, body_in, catalogue_of, is_of_catalogue, layout_of, row_in, rows_of, sizes_of}
+use Rattle.mt_tables.specs.Tables.{overwritten}
+use Rattle.mt_tables.proofs.Bodies.{bodies_total}
+use Rattle.mt_tables.proofs.Bytes.{length-bytes_at, overwrites_all}
+use Rattle.mt_tables.proofs.Readings.{body_free, row_free}
+use Rattle.mt_tables.proofs.Sizes.{sizes_sound}
+use Rattle.mt_staging.specs.Group.{GroupState, IsGroup, PutsReadable}
+use Rattle.mt_staging.specs.Steps.{FindsFree, MakesPage, PutsSlot, TakesAway, TakesFirst, WritesFree, WritesOver, one_freed, one_taken, page_made, with_body, with_free, with_row, with_write}
+use Rattle.mt_staging.proofs.Effects.{body_readable, body_small, catalogue_width, emptied_readable, is_slot, marked_readable, never_new, none_new, one_new, read_again, readable_by, slot_by, width_is, width_small}
+use Rattle.mt_staging.proofs.Groups.{AreNumbers, IsWithPage, IsWithin, filled_taken, group_of_parts, less_taken, numbers_of, numbers_with_page, numbers_within, stands_of}
+use Rattle.mt_staging.proofs.Keys.{plan_found, plan_lacks}
+use Rattle.mt_staging.proofs.Lists.{once}
+use Rattle.mt_staging.proofs.OneSlot.{body_removed, body_rewritten, body_taken, row_removed, row_rewritten, row_taken}
+use Rattle.mt_staging.proofs.Pairs.{said_there}
+use Rattle.mt_staging.proofs.Paging.{page_stands}
+use Rattle.mt_staging.proofs.Slots.{catalogue_there, emptied_free, marked_row, row_is_used, used_body, written_row}
+use Rattle.mt_staging.proofs.Standing.{Stands}
+
+not_zero : (n : ℕ) → (n == 0) ≡ false → n ≡ 0 → ⊥
+not_zero n e z = grind (arith, nat_tests, e, z)
+
+module _ (known : KnownLayouts) (count : ℕ) (area : Area) (start : ℕ → ℕ) (changes : List Change) (old : GroupState) (g : IsGroup known count area start changes old) where
+  abbrev total : ℕ
+  total = count + length old.added
+
+  abbrev before : Area
+  before = with_ranges old.ranges area
+
+  abbrev width : ℕ → ℕ
+  width table = (sizes_of known).width table
+
+  s : Stands known count total area changes old
+  s = stands_of known count area start changes old g
+
+  n : AreNumbers known count start changes old
+  n = numbers_of known count area start changes old g
+
+  -- the rows so far at a key that was asked for
+  row_there : (key : Key) (p : ℕ) (is : finite.get old.places.rows key ≡ Some (Some p)) → finite.get (applied changes (rows_of known area)) key ≡ Some (s.rows.held key p is).0
+  row_there key p is =
+      ap (λ m. finite.get m key) (sym s.row_changes)
+      ∙ plan_found keys_total (sizes_of known) (sizes_sound known) (row_in known) (λ k. k.table) total area s.row_values old.ranges old.places.rows old.places.free s.rows key p is
+
+  row_nowhere : (key : Key) → finite.get old.places.rows key ≡ Some None → finite.get (applied changes (rows_of known area)) key ≡ None
+  row_nowhere key is =
+      ap (λ m. finite.get m key) (sym s.row_changes)
+      ∙ plan_lacks keys_total (sizes_of known) (sizes_sound known) (row_in known) (λ k. k.table) total area s.row_values old.ranges old.places.rows old.places.free s.rows key is
+
+  body_there : (key : ℕ × List ℕ) (p : ℕ) (is : finite.get old.places.bodies key ≡ Some (Some p)) → finite.get (catalogue_applied changes (catalogue_of known area)) key ≡ Some (s.bodies.held key p is).0
+  body_there key p is =
+      ap (λ m. finite.get m key) (sym s.body_changes)
+      ∙ plan_found bodies_total (sizes_of known) (sizes_sound known) body_in (λ k. k.0) total area s.body_values old.ranges old.places.bodies old.places.free s.bodies key p is
+
+  body_nowhere : (key : ℕ × List ℕ) → finite.get old.places.bodies key ≡ Some None → finite.get (catalogue_applied changes (catalogue_of known area)) key ≡ None
+  body_nowhere key is =
+      ap (λ m. finite.get m key) (sym s.body_changes)
+      ∙ plan_lacks bodies_total (sizes_of known) (sizes_sound known) body_in (λ k. k.0) total area s.body_values old.ranges old.places.bodies old.places.free s.bodies key is
+
+  -- the numbers once one range more was written over a slot
+  over_numbers : (change : Change) (p : ℕ) (bytes : List ℕ) → length bytes ≤ 4096 → AreNumbers known count start (changes ++ change ∷ []) (with_write p bytes old)
+  over_numbers change p bytes short =
+      numbers_within known count start changes change old (with_write p bytes old) n (record { position = p; bytes = bytes; ranges = refl; short = short; added = refl; filled = λ t. refl; no_more = λ t. omega arith })
+
+  pub mark_keeps : (layout : Layout) (table tenant row mark : ℕ) (new : GroupState) → layout_of known table ≡ Some layout → layout.head ≡ Conventional → IsMark Conventional mark
+      → WritesOver (finite.get old.places.rows (conventional_key table tenant row)) (mark ∷ []) old new → IsGroup known count area start (changes ++ Mark table tenant row mark ∷ []) new
+  mark_keeps layout table tenant row mark new found head is w =
+      let key = conventional_key table tenant row in
+      let p = w.position in
+      let change : Change = Mark table tenant row mark in
+      let held = s.rows.held key p w.stands in
+      let place : SlotPlace = record { table = table; position = p } in
+      let bytes : List ℕ = bytes_at before p (width table) in
+      let some = (sizes_sound known).some table in
+      let long = length-bytes_at before p (width table) in
+      let old_says : row_in known (table, bytes) ≡ Some (key, held.0) = said_there (sizes_of known) (row_in known) total before place (Some (key, held.0)) held.1 in
+      let cell : Cell = record { mark = mark; values = held.0.values } in
+      let says : row_in known (table, overwritten (mark ∷ []) bytes) ≡ Some (key, cell) = marked_row known table mark layout bytes key held.0 found head is (omega (arith, some, long)) old_says in
+      let used = not_zero (slice_index bytes 0) (row_is_used known (table, bytes) (key, held.0) old_says) in
+      let stands = row_rewritten known count total area changes change old s key layout found (subst IsOfRows (sym head) tt) p cell (mark ∷ []) w.stands (omega (arith, some)) says
+          (ap (λ o. with_mark mark key o (applied changes (rows_of known area))) (row_there key p w.stands), refl, λ t. never_new (nat_eq table t))
+          (λ r puts. readable_by known table layout (overwritten (mark ∷ []) bytes) found (marked_readable layout mark bytes head is used (slot_by known table layout bytes found r))) in
+      subst (IsGroup known count area start (changes ++ change ∷ [])) (sym w.written)
+      (group_of_parts known count area start (changes ++ change ∷ []) (with_write p (mark ∷ []) old) stands (over_numbers change p (mark ∷ []) (omega arith)))
+
+  pub remove_keeps : (layout : Layout) (table tenant base chunk row : ℕ) (new : GroupState) → layout_of known table ≡ Some layout → IsOfRows layout.head
+      → TakesAway table (finite.get old.places.rows (record { table = table; tenant = tenant; base = base; chunk = chunk; row = row })) (with_row (record { table = table; tenant = tenant; base = base; chunk = chunk; row = row })) old new
+      → IsGroup known count area start (changes ++ Remove table tenant base chunk row ∷ []) new
+  remove_keeps layout table tenant base chunk row new found rows w =
+      let key : Key = record { table = table; tenant = tenant; base = base; chunk = chunk; row = row } in
+      let p = w.position in
+      let change : Change = Remove table tenant base chunk row in
+      let bytes : List ℕ = bytes_at before p (width table) in
+      let some = (sizes_sound known).some table in
+      let then : GroupState = one_freed table (with_row key None (with_write p (0 ∷ []) old)) in
+      let stands = row_removed known count total area changes change old s key layout found rows p (0 ∷ []) w.stands (omega (arith, some)) (emptied_free bytes)
+          (row_free known (table, overwritten (0 ∷ []) bytes) (emptied_free bytes))
+          (refl, refl, λ t. never_new (nat_eq table t))
+          (λ r puts. readable_by known table layout (overwritten (0 ∷ []) bytes) found (emptied_readable layout bytes (slot_by known table layout bytes found r))) in
+      let numbers = numbers_within known count start changes change old then n (record { position = p; bytes = 0 ∷ []; ranges = refl; short = omega arith; added = refl; filled = λ t. refl; no_more = λ t. omega arith }) in
+      subst (IsGroup known count area start (changes ++ change ∷ [])) (sym w.written) (group_of_parts known count area start (changes ++ change ∷ []) then stands numbers)
+
+  pub remove_body_keeps : (layout : Layout) (table : ℕ) (body : List ℕ) (new : GroupState) → layout_of known table ≡ Some layout → IsLayout layout → layout.head ≡ Catalogue table
+      → TakesAway table (finite.get old.places.bodies (table, body)) (with_body (table, body)) old new → IsGroup known count area start (changes ++ RemoveCat table body ∷ []) new
+  remove_body_keeps layout table body new found sound head w =
+      let key : ℕ × List ℕ = (table, body) in
+      let p = w.position in
+      let change : Change = RemoveCat table body in
+      let bytes : List ℕ = bytes_at before p (width table) in
+      let some = (sizes_sound known).some table in
+      let then : GroupState = one_freed table (with_body key None (with_write p (0 ∷ []) old)) in
+      let stands = body_removed known count total area changes change old s key layout table found head (catalogue_there table layout sound head) p (0 ∷ []) w.stands (omega (arith, some)) (emptied_free bytes)
+          (body_free (table, overwritten (0 ∷ []) bytes) (emptied_free bytes))
+          (refl, refl, λ t. never_new (nat_eq table t))
+          (λ r puts. readable_by known table layout (overwritten (0 ∷ []) bytes) found (emptied_readable layout bytes (slot_by known table layout bytes found r))) in
+      let numbers = numbers_within known count start changes change old then n (record { position = p; bytes = 0 ∷ []; ranges = refl; short = omega arith; added = refl; filled = λ t. refl; no_more = λ t. omega arith }) in
+      subst (IsGroup known count area start (changes ++ change ∷ [])) (sym w.written) (group_of_parts known count area start (changes ++ change ∷ []) then stands numbers)
