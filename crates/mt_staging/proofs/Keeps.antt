@@ -135,3 +135,108 @@ module _ (known : KnownLayouts) (count : ℕ) (area : Area) (start : ℕ → ℕ
           (λ r puts. readable_by known table layout (overwritten (0 ∷ []) bytes) found (emptied_readable layout bytes (slot_by known table layout bytes found r))) in
       let numbers = numbers_within known count start changes change old then n (record { position = p; bytes = 0 ∷ []; ranges = refl; short = omega arith; added = refl; filled = λ t. refl; no_more = λ t. omega arith }) in
       subst (IsGroup known count area start (changes ++ change ∷ [])) (sym w.written) (group_of_parts known count area start (changes ++ change ∷ []) then stands numbers)
+
+  -- what stands once a page of a table was made
+  page_then : (layout : Layout) (table : ℕ) → layout_of known table ≡ Some layout → 1 ≤ count → total < 2 ^ 28 → table ≤ 31
+      → Stands known count (count + length (old.added ++ table ∷ [])) area changes (page_made layout table count old)
+  page_then layout table found some few small =
+      let more = length-append old.added (table ∷ []) in
+      let same : total + 1 ≡ count + length (old.added ++ table ∷ []) = omega (arith, more) in
+      subst (λ m. Stands known count m area changes (page_made layout table count old)) same (page_stands known count area changes layout table old s found some few small)
+
+  -- the numbers once a free slot was written
+  free_numbers : (change : Change) (table p : ℕ) (behind bytes : List ℕ) (then : GroupState) → old.places.free table ≡ p ∷ behind → length bytes ≤ 4096
+      → then.ranges ≡ old.ranges ++ record { position = p; bytes = bytes } ∷ [] → then.added ≡ old.added → then.places.free ≡ without_first table old.places.free → then.taken ≡ (one_taken table old).taken
+      → AreNumbers known count start (changes ++ change ∷ []) then
+  free_numbers change table p behind bytes then first short ranges added free taken =
+      numbers_within known count start changes change old then n (record {
+        position = p;
+        bytes = bytes;
+        ranges = ranges;
+        short = short;
+        added = added;
+        filled = λ t. (λ i. taken i t + length (free i t)) ∙ filled_taken table p behind old.places.free old.taken first t;
+        no_more = λ t. subst (λ (f : ℕ → List ℕ). length (f t) ≤ length (old.places.free t)) (sym free) (less_taken table old.places.free t);
+      })
+
+  page_numbers : (change : Change) (layout : Layout) (table p : ℕ) (behind bytes : List ℕ) (then : GroupState) → layout_of known table ≡ Some layout → table ≤ 31 → total < 2 ^ 28 → old.places.free table ≡ []
+      → (page_made layout table count old).places.free table ≡ p ∷ behind → length bytes ≤ 4096
+      → then.ranges ≡ (page_made layout table count old).ranges ++ record { position = p; bytes = bytes } ∷ [] → then.added ≡ old.added ++ table ∷ [] → then.places.free ≡ without_first table (page_made layout table count old).places.free → then.taken ≡ (one_taken table old).taken
+      → AreNumbers known count start (changes ++ change ∷ []) then
+  page_numbers change layout table p behind bytes then found small few none first short ranges added free taken =
+      numbers_with_page known count start changes change layout table old then found small few n (record {
+        position = p;
+        bytes = bytes;
+        behind = behind;
+        ranges = ranges;
+        short = short;
+        added = added;
+        none_left = none;
+        first = first;
+        free = λ t i. free i t;
+        taken = λ t i. taken i t;
+      })
+
+  module _ (layout : Layout) (table : ℕ) (slot : SlotRow) (found : layout_of known table ≡ Some layout) (rows : IsOfRows layout.head) (room : 1 ≤ slots_per_page layout) (kinds : AreKinds layout.kinds) (fits : FitsLayout layout slot) (numbers : HasNumbers slot) where
+    abbrev key : Key
+    key = key_in table slot
+
+    abbrev change : Change
+    change = Put table slot
+
+    slot_long : length (slot_bytes layout slot) ≡ width table
+    slot_long = (is_slot layout slot rows kinds fits numbers).size ∙ sym (width_is known table layout found)
+
+    slot_short : length (slot_bytes layout slot) ≤ 4096
+    slot_short = let l = slot_long in let w = width_is known table layout found in let h = width_small layout room in omega (arith, l, w, h)
+
+    slot_whole : (at : Area) (p : ℕ) → overwritten (slot_bytes layout slot) (bytes_at at p (width table)) ≡ slot_bytes layout slot
+    slot_whole at p = overwrites_all at p (width table) (slot_bytes layout slot) slot_long
+
+    slot_says : (at : Area) (p : ℕ) → row_in known (table, overwritten (slot_bytes layout slot) (bytes_at at p (width table))) ≡ Some (key, cell_of slot)
+    slot_says at p = ap (λ (bs : List ℕ). row_in known (table, bs)) (slot_whole at p) ∙ written_row known table layout slot found rows fits.mark (read_again layout slot rows kinds fits numbers)
+
+    slot_reads : (at : Area) (p : ℕ) → IsReadableSlot known (table, bytes_at at p (width table)) → PutsReadable change → IsReadableSlot known (table, overwritten (slot_bytes layout slot) (bytes_at at p (width table)))
+    slot_reads at p r puts = subst (λ (bs : List ℕ). IsReadableSlot known (table, bs)) (sym (slot_whole at p)) (readable_by known table layout (slot_bytes layout slot) found (is_slot layout slot rows kinds fits numbers))
+
+    put_over : (new : GroupState) → WritesOver (finite.get old.places.rows key) (slot_bytes layout slot) old new → IsGroup known count area start (changes ++ change ∷ []) new
+    put_over new w =
+        let p = w.position in
+        let stands = row_rewritten known count total area changes change old s key layout found rows p (cell_of slot) (slot_bytes layout slot) w.stands (let l = slot_long in omega (arith, l)) (slot_says before p)
+            (refl, refl, λ t. none_new (applied changes (rows_of known area)) key (s.rows.held key p w.stands).0 (nat_eq table t) (row_there key p w.stands)) (slot_reads before p) in
+        subst (IsGroup known count area start (changes ++ change ∷ [])) (sym w.written)
+        (group_of_parts known count area start (changes ++ change ∷ []) (with_write p (slot_bytes layout slot) old) stands (over_numbers change p (slot_bytes layout slot) slot_short))
+
+    -- the slot is written where one is free, before or behind a page that was made
+    fresh : (h : GroupState) → Stands known count (count + length h.added) area changes h → finite.get h.places.rows key ≡ Some None → finite.get (applied changes (rows_of known area)) key ≡ None
+        → (p : ℕ) (behind : List ℕ) → h.places.free table ≡ p ∷ behind
+        → Stands known count (count + length h.added) area (changes ++ change ∷ []) (one_taken table (with_write p (slot_bytes layout slot) (with_row key (Some p) (with_free (without_first table h.places.free) h))))
+    fresh h sh nowhere none p behind first =
+        row_taken known count (count + length h.added) area changes change h sh key layout found rows p behind (cell_of slot) (slot_bytes layout slot) first nowhere (let l = slot_long in omega (arith, l)) (slot_says (with_ranges h.ranges area) p)
+        (refl, refl, λ t. one_new (applied changes (rows_of known area)) key (nat_eq table t) none) (slot_reads (with_ranges h.ranges area) p)
+
+    put_free : 1 ≤ count → table ≤ 31 → (new : GroupState) → WritesFree layout table count (finite.get old.places.rows key) (slot_bytes layout slot) (with_row key) old new → IsGroup known count area start (changes ++ change ∷ []) new
+    put_free some small new w = by w.found
+      where
+        by : FindsFree layout table count w.position old w.between → IsGroup known count area start (changes ++ change ∷ []) new
+        by (inl first) =
+            let group : GroupState = one_taken table (with_write w.position (slot_bytes layout slot) (with_row key (Some w.position) (with_free (without_first table old.places.free) old))) in
+            let stands = fresh old s w.nowhere (row_nowhere key w.nowhere) w.position first.behind first.first in
+            let numbers = free_numbers change table w.position first.behind (slot_bytes layout slot) group first.first slot_short refl refl refl refl in
+            subst (IsGroup known count area start (changes ++ change ∷ []))
+            (sym (w.written ∙ ap (λ (h : GroupState). one_taken table (with_write w.position (slot_bytes layout slot) (with_row key (Some w.position) h))) first.rest))
+            (group_of_parts known count area start (changes ++ change ∷ []) group stands numbers)
+        by (inr (mid, made, first)) =
+            let page : GroupState = page_made layout table count old in
+            let group : GroupState = one_taken table (with_write w.position (slot_bytes layout slot) (with_row key (Some w.position) (with_free (without_first table page.places.free) page))) in
+            let there : page.places.free table ≡ w.position ∷ first.behind = ap (λ (h : GroupState). h.places.free table) (sym made.page) ∙ first.first in
+            let stands = fresh page (page_then layout table found some made.few small) w.nowhere (row_nowhere key w.nowhere) w.position first.behind there in
+            let numbers = page_numbers change layout table w.position first.behind (slot_bytes layout slot) group found small made.few made.none_left there slot_short refl refl refl refl in
+            subst (IsGroup known count area start (changes ++ change ∷ []))
+            (sym (w.written ∙ ap (λ (h : GroupState). one_taken table (with_write w.position (slot_bytes layout slot) (with_row key (Some w.position) h))) first.rest
+            ∙ ap (λ (h : GroupState). one_taken table (with_write w.position (slot_bytes layout slot) (with_row key (Some w.position) (with_free (without_first table h.places.free) h)))) made.page))
+            (group_of_parts known count area start (changes ++ change ∷ []) group stands numbers)
+
+    pub put_keeps : 1 ≤ count → table ≤ 31 → (new : GroupState) → PutsSlot layout table count (finite.get old.places.rows key) (slot_bytes layout slot) (with_row key) old new → IsGroup known count area start (changes ++ change ∷ []) new
+    put_keeps some small new (inl over) = put_over new over
+    put_keeps some small new (inr free) = put_free some small new free
