@@ -23,7 +23,7 @@ use Rattle.mt_tables.specs.Rows.{IsReadableSlot, KnownLayouts, body_in, catalogu
 use Rattle.mt_tables.specs.Tables.{overwritten}
 use Rattle.mt_tables.proofs.Bodies.{bodies_total}
 use Rattle.mt_tables.proofs.Bytes.{length-bytes_at, overwrites_all}
-use Rattle.mt_tables.proofs.Readings.{body_free, row_free}
+use Rattle.mt_tables.proofs.Readings as readings
 use Rattle.mt_tables.proofs.Sizes.{sizes_sound}
 use Rattle.mt_staging.specs.Group.{GroupState, IsGroup, PutsReadable}
 use Rattle.mt_staging.specs.Steps.{FindsFree, MakesPage, PutsSlot, TakesAway, TakesFirst, WritesFree, WritesOver, one_freed, one_taken, page_made, with_body, with_free, with_row, with_write}
@@ -114,7 +114,7 @@ module _ (known : KnownLayouts) (count : ℕ) (area : Area) (start : ℕ → ℕ
       let some = (sizes_sound known).some table in
       let then : GroupState = one_freed table (with_row key None (with_write p (0 ∷ []) old)) in
       let stands = row_removed known count total area changes change old s key layout found rows p (0 ∷ []) w.stands (omega (arith, some)) (emptied_free bytes)
-          (row_free known (table, overwritten (0 ∷ []) bytes) (emptied_free bytes))
+          (readings.row_free known (table, overwritten (0 ∷ []) bytes) (emptied_free bytes))
           (refl, refl, λ t. never_new (nat_eq table t))
           (λ r puts. readable_by known table layout (overwritten (0 ∷ []) bytes) found (emptied_readable layout bytes (slot_by known table layout bytes found r))) in
       let numbers = numbers_within known count start changes change old then n (record { position = p; bytes = 0 ∷ []; ranges = refl; short = omega arith; added = refl; filled = λ t. refl; no_more = λ t. omega arith }) in
@@ -130,7 +130,7 @@ module _ (known : KnownLayouts) (count : ℕ) (area : Area) (start : ℕ → ℕ
       let some = (sizes_sound known).some table in
       let then : GroupState = one_freed table (with_body key None (with_write p (0 ∷ []) old)) in
       let stands = body_removed known count total area changes change old s key layout table found head (catalogue_there table layout sound head) p (0 ∷ []) w.stands (omega (arith, some)) (emptied_free bytes)
-          (body_free (table, overwritten (0 ∷ []) bytes) (emptied_free bytes))
+          (readings.body_free (table, overwritten (0 ∷ []) bytes) (emptied_free bytes))
           (refl, refl, λ t. never_new (nat_eq table t))
           (λ r puts. readable_by known table layout (overwritten (0 ∷ []) bytes) found (emptied_readable layout bytes (slot_by known table layout bytes found r))) in
       let numbers = numbers_within known count start changes change old then n (record { position = p; bytes = 0 ∷ []; ranges = refl; short = omega arith; added = refl; filled = λ t. refl; no_more = λ t. omega arith }) in
@@ -240,3 +240,67 @@ module _ (known : KnownLayouts) (count : ℕ) (area : Area) (start : ℕ → ℕ
     pub put_keeps : 1 ≤ count → table ≤ 31 → (new : GroupState) → PutsSlot layout table count (finite.get old.places.rows key) (slot_bytes layout slot) (with_row key) old new → IsGroup known count area start (changes ++ change ∷ []) new
     put_keeps some small new (inl over) = put_over new over
     put_keeps some small new (inr free) = put_free some small new free
+
+  module _ (layout : Layout) (table : ℕ) (body : List ℕ) (found : layout_of known table ≡ Some layout) (sound : IsLayout layout) (head : layout.head ≡ Catalogue table) (size : length body ≡ body_width table) where
+    abbrev body_name : ℕ × List ℕ
+    body_name = (table, body)
+
+    abbrev put_it : Change
+    put_it = PutCat table body
+
+    body_long : length (1 ∷ body) ≡ width table
+    body_long = let w = width_is known table layout found in let c = catalogue_width layout table sound head in omega (arith, w, c, size)
+
+    body_short : length (1 ∷ body) ≤ 4096
+    body_short = let b = body_small table in omega (arith, size, b)
+
+    body_whole : (at : Area) (p : ℕ) → overwritten (1 ∷ body) (bytes_at at p (width table)) ≡ 1 ∷ body
+    body_whole at p = overwrites_all at p (width table) (1 ∷ body) body_long
+
+    body_says : (at : Area) (p : ℕ) → body_in (table, overwritten (1 ∷ body) (bytes_at at p (width table))) ≡ Some (body_name, tt)
+    body_says at p = ap (λ (bs : List ℕ). body_in (table, bs)) (body_whole at p) ∙ used_body table (1 ∷ body) (catalogue_there table layout sound head) refl
+
+    body_reads : (at : Area) (p : ℕ) → IsReadableSlot known (table, bytes_at at p (width table)) → PutsReadable put_it → IsReadableSlot known (table, overwritten (1 ∷ body) (bytes_at at p (width table)))
+    body_reads at p r puts = subst (λ (bs : List ℕ). IsReadableSlot known (table, bs)) (sym (body_whole at p)) (readable_by known table layout (1 ∷ body) found (body_readable layout table body sound head size puts))
+
+    body_over : (new : GroupState) → WritesOver (finite.get old.places.bodies body_name) (1 ∷ body) old new → IsGroup known count area start (changes ++ put_it ∷ []) new
+    body_over new w =
+        let p = w.position in
+        let stands = body_rewritten known count total area changes put_it old s body_name layout table found head (catalogue_there table layout sound head) p (1 ∷ body) w.stands (let l = body_long in omega (arith, l)) (body_says before p)
+            (refl, refl, λ t. none_new (catalogue_applied changes (catalogue_of known area)) body_name (s.bodies.held body_name p w.stands).0 (nat_eq table t) (body_there body_name p w.stands)) (body_reads before p) in
+        subst (IsGroup known count area start (changes ++ put_it ∷ [])) (sym w.written)
+        (group_of_parts known count area start (changes ++ put_it ∷ []) (with_write p (1 ∷ body) old) stands (over_numbers put_it p (1 ∷ body) body_short))
+
+    body_fresh : (h : GroupState) → Stands known count (count + length h.added) area changes h → finite.get h.places.bodies body_name ≡ Some None → finite.get (catalogue_applied changes (catalogue_of known area)) body_name ≡ None
+        → (p : ℕ) (behind : List ℕ) → h.places.free table ≡ p ∷ behind
+        → Stands known count (count + length h.added) area (changes ++ put_it ∷ []) (one_taken table (with_write p (1 ∷ body) (with_body body_name (Some p) (with_free (without_first table h.places.free) h))))
+    body_fresh h sh nowhere none p behind first =
+        body_taken known count (count + length h.added) area changes put_it h sh body_name layout table found head (catalogue_there table layout sound head) p behind (1 ∷ body) first nowhere (let l = body_long in omega (arith, l)) (body_says (with_ranges h.ranges area) p)
+        (refl, refl, λ t. one_new (catalogue_applied changes (catalogue_of known area)) body_name (nat_eq table t) none) (body_reads (with_ranges h.ranges area) p)
+
+    body_free : 1 ≤ count → table ≤ 31 → (new : GroupState) → WritesFree layout table count (finite.get old.places.bodies body_name) (1 ∷ body) (with_body body_name) old new → IsGroup known count area start (changes ++ put_it ∷ []) new
+    body_free some small new w = by w.found
+      where
+        by : FindsFree layout table count w.position old w.between → IsGroup known count area start (changes ++ put_it ∷ []) new
+        by (inl first) =
+            let group : GroupState = one_taken table (with_write w.position (1 ∷ body) (with_body body_name (Some w.position) (with_free (without_first table old.places.free) old))) in
+            let stands = body_fresh old s w.nowhere (body_nowhere body_name w.nowhere) w.position first.behind first.first in
+            let numbers = free_numbers put_it table w.position first.behind (1 ∷ body) group first.first body_short refl refl refl refl in
+            subst (IsGroup known count area start (changes ++ put_it ∷ []))
+            (sym (w.written ∙ ap (λ (h : GroupState). one_taken table (with_write w.position (1 ∷ body) (with_body body_name (Some w.position) h))) first.rest))
+            (group_of_parts known count area start (changes ++ put_it ∷ []) group stands numbers)
+        by (inr (mid, made, first)) =
+            let page : GroupState = page_made layout table count old in
+            let group : GroupState = one_taken table (with_write w.position (1 ∷ body) (with_body body_name (Some w.position) (with_free (without_first table page.places.free) page))) in
+            let there : page.places.free table ≡ w.position ∷ first.behind = ap (λ (h : GroupState). h.places.free table) (sym made.page) ∙ first.first in
+            let stands = body_fresh page (page_then layout table found some made.few small) w.nowhere (body_nowhere body_name w.nowhere) w.position first.behind there in
+            let numbers = page_numbers put_it layout table w.position first.behind (1 ∷ body) group found small made.few made.none_left there body_short refl refl refl refl in
+            subst (IsGroup known count area start (changes ++ put_it ∷ []))
+            (sym (w.written ∙ ap (λ (h : GroupState). one_taken table (with_write w.position (1 ∷ body) (with_body body_name (Some w.position) h))) first.rest
+            ∙ ap (λ (h : GroupState). one_taken table (with_write w.position (1 ∷ body) (with_body body_name (Some w.position) (with_free (without_first table h.places.free) h)))) made.page))
+            (group_of_parts known count area start (changes ++ put_it ∷ []) group stands numbers)
+
+    pub put_body_keeps : 1 ≤ count → table ≤ 31 → (new : GroupState) → PutsSlot layout table count (finite.get old.places.bodies body_name) (1 ∷ body) (with_body body_name) old new → IsGroup known count area start (changes ++ put_it ∷ []) new
+    put_body_keeps some small new (inl over) = body_over new over
+    put_body_keeps some small new (inr free) = body_free some small new free
+
