@@ -10,3 +10,4 @@ pub mod Paging
 pub mod OneSlot
 pub mod Slots
 pub mod Standing
+pub mod Widths
