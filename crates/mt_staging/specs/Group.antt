@@ -2,7 +2,6 @@
 -- is written.
 use Rattle.std.specs.Prelude.{◌≡◌, ◌⊎◌, ℕ, ◌+◌, ◌*◌, ◌^◌, ◌<◌, ◌≤◌, ◌&&◌, nat_eq, Bool, true, false, not, if◌then◌else◌, List, [], ◌∷◌, length, slice_index, count_by, All, Option, None, Some}
 use Rattle.std.specs.FinMap as finite
-use Rattle.std.specs.FinSet as set
 use Rattle.mt_journal.specs.Commits.{payload_size}
 use Rattle.mt_journal.specs.Layout.{Area, Range}
 use Rattle.mt_journal.specs.Replay.{with_ranges}
@@ -16,9 +15,11 @@ use Rattle.mt_physplan.specs.declared.change.Change.{Change}
 use Rattle.mt_physplan.specs.declared.change.Change.TheVariants.{Put, Mark, Remove, PutCat, RemoveCat}
 use Rattle.mt_physplan.specs.declared.key.Cell.{Cell}
 use Rattle.mt_physplan.specs.declared.key.Key.{Key}
-use Rattle.mt_physplan.specs.Applied.{Catalogue, applied, applied_by, body_cmp, catalogue_applied, catalogue_applied_by}
+use Rattle.mt_physplan.specs.Applied as physical
+use Rattle.mt_physplan.specs.Applied.{applied, applied_by, body_cmp, catalogue_applied, catalogue_applied_by}
 use Rattle.mt_physplan.specs.Content.{Content}
 use Rattle.mt_physplan.specs.Keys.{key_cmp, key_in}
+use Rattle.mt_pages.specs.Control.{IsPageZero}
 use Rattle.mt_places.specs.Named.{body_key, row_key, table_of}
 use Rattle.mt_places.specs.Places.{PlacesState}
 use Rattle.mt_tables.specs.Commit.{with_values}
@@ -64,16 +65,24 @@ IsLost (Remove table tenant base chunk row) places = (key : Key) × (row_key (Re
 IsLost (PutCat table body) places = ⊥
 IsLost (RemoveCat table body) places = finite.get places.bodies (table, body) ≡ Some None
 
+-- A slot is put where none with its key stands, and no slot of its table is free.
+abbrev pub NeedsPage : Change → PlacesState → Type 0
+NeedsPage (Put table slot) places = (finite.get places.rows (key_in table slot) ≡ Some None) × (places.free table ≡ [])
+NeedsPage (Mark table tenant row mark) places = ⊥
+NeedsPage (Remove table tenant base chunk row) places = ⊥
+NeedsPage (PutCat table body) places = (finite.get places.bodies (table, body) ≡ Some None) × (places.free table ≡ [])
+NeedsPage (RemoveCat table body) places = ⊥
+
 -- whether a change puts a slot where none with its key stands
-abbrev pub is_new : Change → Content → Catalogue → Bool
+abbrev pub is_new : Change → Content → physical.Catalogue → Bool
 is_new (Put table slot) rows catalogue = not (finite.contains_key rows (key_in table slot))
 is_new (Mark table tenant row mark) rows catalogue = false
 is_new (Remove table tenant base chunk row) rows catalogue = false
-is_new (PutCat table body) rows catalogue = not (set.contains catalogue (table, body))
+is_new (PutCat table body) rows catalogue = not (finite.contains_key catalogue (table, body))
 is_new (RemoveCat table body) rows catalogue = false
 
 -- how many slots changes put into a table where none with their keys stood, each at its turn
-abbrev pub new_keys : ℕ → List Change → Content → Catalogue → ℕ
+abbrev pub new_keys : ℕ → List Change → Content → physical.Catalogue → ℕ
 new_keys t [] rows catalogue = 0
 new_keys t (change ∷ changes) rows catalogue =
     (if nat_eq (table_of change) t && is_new change rows catalogue then 1 else 0) + new_keys t changes (applied_by change rows) (catalogue_applied_by change catalogue)
@@ -107,5 +116,9 @@ pub record IsGroup (known : KnownLayouts) (count : ℕ) (area : Area) (start : �
   -- where each slot could be read, each can
   pub readable : All (IsReadableSlot known) (slots_below (sizes_of known) count area) → All PutsReadable changes
       → All (IsReadableSlot known) (slots_below (sizes_of known) (count + length group.added) (with_ranges group.ranges area))
+  -- page 0 counts pages where it did, and the pages that are made are of tables that there are
+  pub page_zero : IsPageZero area → IsPageZero (with_ranges group.ranges area)
+  pub tables_few : (i : ℕ) → i < length group.added → slice_index group.added i < 32
+  pub pages_few : count + length group.added ≤ 2 ^ 28
   pub few : length group.ranges ≤ 3 * length changes
   pub short : payload_size group.ranges ≤ 4 + 12324 * length changes

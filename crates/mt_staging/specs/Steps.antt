@@ -1,5 +1,5 @@
 -- What the steps of a change do to a group.
-use Rattle.std.specs.Prelude.{◌≡◌, ◌⊎◌, ℕ, ◌+◌, ◌^◌, ◌<◌, nat_eq, if◌then◌else◌, List, [], ◌∷◌, ◌++◌, length, Option, None, Some}
+use Rattle.std.specs.Prelude.{◌≡◌, ◌⊎◌, ℕ, ◌+◌, ◌^◌, ◌<◌, ◌≤◌, nat_eq, if◌then◌else◌, List, [], ◌∷◌, ◌++◌, length, Option, None, Some}
 use Rattle.std.specs.FinMap as finite
 use Rattle.mt_rowfile.specs.declared.layout.Layout.{Layout}
 use Rattle.mt_physplan.specs.declared.key.Key.{Key}
@@ -95,3 +95,59 @@ pub record MakesPage (layout : Layout) (table count : ℕ) (old new : GroupState
 abbrev pub FindsFree : Layout → ℕ → ℕ → ℕ → GroupState → GroupState → Type 0
 FindsFree layout table count position old new =
     TakesFirst table position old new ⊎ ((between : GroupState) × MakesPage layout table count old between × TakesFirst table position between new)
+
+-- a slot is written over the one that stands
+pub record WritesOver (place : Option (Option ℕ)) (bytes : List ℕ) (old new : GroupState) : Type 0 where
+  pub position : ℕ
+  pub stands : place ≡ Some (Some position)
+  pub written : new ≡ with_write position bytes old
+
+-- a slot that stands nowhere is written where one is free
+pub record WritesFree (layout : Layout) (table count : ℕ) (place : Option (Option ℕ)) (bytes : List ℕ) (placed : Option ℕ → GroupState → GroupState) (old new : GroupState) : Type 0 where
+  pub position : ℕ
+  pub between : GroupState
+  pub nowhere : place ≡ Some None
+  pub found : FindsFree layout table count position old between
+  pub written : new ≡ one_taken table (with_write position bytes (placed (Some position) between))
+
+-- a slot is put
+abbrev pub PutsSlot : Layout → ℕ → ℕ → Option (Option ℕ) → List ℕ → (Option ℕ → GroupState → GroupState) → GroupState → GroupState → Type 0
+PutsSlot layout table count place bytes placed old new = WritesOver place bytes old new ⊎ WritesFree layout table count place bytes placed old new
+
+-- the mark of a slot that stands is taken away
+pub record TakesAway (table : ℕ) (place : Option (Option ℕ)) (placed : Option ℕ → GroupState → GroupState) (old new : GroupState) : Type 0 where
+  pub position : ℕ
+  pub stands : place ≡ Some (Some position)
+  pub written : new ≡ one_freed table (placed None (with_write position (0 ∷ []) old))
+
+-- the slot would end behind the pages that there may be
+abbrev pub IsFar : ℕ → List ℕ → Type 0
+IsFar position bytes = 2 ^ 40 < position + length bytes
+
+-- a slot stands too far behind
+pub record IsFarOver (place : Option (Option ℕ)) (bytes : List ℕ) : Type 0 where
+  pub position : ℕ
+  pub stands : place ≡ Some (Some position)
+  pub far : IsFar position bytes
+
+-- or the one that is free does
+pub record IsFarFree (layout : Layout) (table count : ℕ) (place : Option (Option ℕ)) (bytes : List ℕ) (old : GroupState) : Type 0 where
+  pub position : ℕ
+  pub between : GroupState
+  pub nowhere : place ≡ Some None
+  pub found : FindsFree layout table count position old between
+  pub far : IsFar position bytes
+
+-- a page would be wanted, and there are as many as there may be
+pub record IsFull (table count : ℕ) (place : Option (Option ℕ)) (old : GroupState) : Type 0 where
+  pub nowhere : place ≡ Some None
+  pub none_left : old.places.free table ≡ []
+  pub many : 2 ^ 28 ≤ count + length old.added
+
+-- why a slot is not put
+abbrev pub PutFaults : Layout → ℕ → ℕ → Option (Option ℕ) → List ℕ → GroupState → Type 0
+PutFaults layout table count place bytes old = IsFarOver place bytes ⊎ (IsFarFree layout table count place bytes old ⊎ IsFull table count place old)
+
+-- why a slot is not marked or taken away
+abbrev pub WriteFaults : Option (Option ℕ) → List ℕ → Type 0
+WriteFaults place bytes = IsFarOver place bytes ⊎ (place ≡ Some None)

@@ -1,29 +1,117 @@
-/// Why a group was not chosen.
-#[derive(Clone, Copy, Debug, PartialEq, Eq, Error)]
-pub enum StageFault {
-    /// The disk is not what it was: a slot that a change names is not there, or the pages would be too many.
-    #[error("disk fault")]
-    Disk,
-    #[error("out of memory")]
-    Memory,
+ghost use Rattle.std.specs.Prelude.{◌≡◌, ℕ, ◌⊎◌, ◌*◌, ◌+◌, ◌-◌, ◌^◌, ◌<◌, ◌≤◌, [], ◌∷◌, ◌++◌, length, Option, Some, None, IfOk, OnOk, OnErr, IsErrOf, IsTrue, slice_index, slice_get};
+ghost use Rattle.std.specs.FinMap as finite;
+ghost use Rattle.std.proofs.Props.{props};
+ghost use Rattle.mt_journal.specs.Layout.{Area};
+ghost use Rattle.mt_rowfile.specs.Layouts.{IsLayout, slots_per_page};
+ghost use Rattle.mt_physplan.specs.declared.change.Change.{Change};
+ghost use Rattle.mt_places.specs.Named.{table_of};
+ghost use Rattle.mt_places.specs.Parts.{state_of};
+ghost use Rattle.mt_tables.specs.Rows.{AreKnown, KnownLayouts, layout_of};
+ghost use Rattle.mt_staging.specs.Few.{AreFew};
+
+use crate::StageFault;
+use crate::parts::{TABLES, count_one, key_of, make_key, see_kinds, write, write_body};
+use mt_journal::Body;
+use mt_list::List;
+use mt_pages::{PAGE_SIZE, Pages};
+use mt_physplan::{Change, Key};
+use mt_places::Places;
+use mt_rowfile::{CatBody, Layout, SlotRow, slot_width, write_slot};
+use std::alloc::{AllocError, Global};
+
+/// The most pages that there are.
+const PAGES_MAX: u64 = 1 << 28;
+
+/// How many bytes a slot of the catalogue has at most.
+const CATALOGUE_SLOT: usize = 45;
+
+/// The mark of a slot that is not in use.
+const FREE: u8 = 0;
+
+/// A group of ranges while it is chosen for changes, one after another.
+#[derive(Debug, Drop)]
+pub struct Group {
+    places: Places,
+    body: Body,
+    // the table of each page that the group makes
+    added: List<u32>,
+    // how many slots of each table it takes and frees
+    taken: [u64; TABLES],
+    freed: [u64; TABLES],
+    ghost few_taken: { AreFew body taken } by { Prim.hlevel props },
+    ghost few_freed: { AreFew body freed } by { Prim.hlevel props },
 }
 
 impl Group {
+    ghost use Rattle.mt_staging.specs.Group.{IsAsked, IsGroup, IsLost, NeedsPage, Suits};
+    ghost use Rattle.mt_staging.specs.States.{IsEmptyGroup, group_of};
+    ghost use Rattle.mt_staging.specs.Steps.{FindsFree, MakesPage};
+
     /// A group of no ranges. `AllocError` is want of memory.
     pub fn new(alloc: Global, places: Places) -> Result<Group, AllocError>
-        ensures { IfOk result (λ group. IsEmptyGroup places group) }   -- ranges ≡ [], places ≡ places, added ≡ [], taken and freed 0 everywhere
+        ensures { IfOk result (λ group. IsEmptyGroup (state_of places) (group_of group)) }
+    {
+        Ok(Group {
+            places,
+            body: Body::new(alloc)?,
+            added: List::new(alloc),
+            taken: [0; TABLES],
+            freed: [0; TABLES],
+        })
+    }
 
-    /// Adds the ranges of a change of a table with this layout. `Disk` comes only where the change marks or removes what
-    /// does not stand, or the pages would be more than 2^28; `Memory` is want of memory. After a fault the group is not used again.
-    pub fn add(&mut self, alloc: Global, layout: &Layout, pages: &Pages, change: &Change) -> Result<(), StageFault>
+    /// The ranges so far.
+    pub fn body(&self) -> &Body
+        ensures { result.now ≡ (group_of self.now).ranges }
+    {
+        &self.body
+    }
+
+    /// How many pages the group makes.
+    pub fn added_count(&self) -> usize
+        ensures { result ≡ length (group_of self.now).added }
+    {
+        self.added.len()
+    }
+
+    /// The table of the page that it makes, counted from 0.
+    pub fn added_table(&self, i: usize) -> u32
+        requires { i < length (group_of self.now).added }
+        ensures { slice_get (group_of self.now).added i ≡ Some result }
+    {
+        *self.added.get(i)
+    }
+
+    /// How many free slots of a table it takes; none of a table above 31.
+    pub fn taken(&self, table: u32) -> u64
+        ensures { result ≡ (group_of self.now).taken table }
+    {
+        self.taken.get(table as usize).copied().unwrap_or(0)
+    }
+
+    /// How many slots of a table it frees; none of a table above 31.
+    pub fn freed(&self, table: u32) -> u64
+        ensures { result ≡ (group_of self.now).freed table }
+    {
+        self.freed.get(table as usize).copied().unwrap_or(0)
+    }
+
+    /// Makes a page of a table, of which no slot is free.
+    fn make_page(&mut self, layout: &Layout, pages: &Pages, table: u32) -> Result<(), StageFault>
         requires layout { IsLayout layout.now }
-        requires suits { Suits layout.now change.now }
-        requires table { table_of change.now ≤ 31 }
-        requires asked { IsAsked change.now self.old.places }
-        requires few { length self.old.ranges ≤ 3 * 2 ^ 22 }
-        ensures ok { OnOk result ((known : KnownLayouts) (area : Area) (start : ℕ → ℕ) (changes : List Change) → AreKnown known → layout_of known (table_of change.now) ≡ Some layout.now
-            → IsGroup known pages.now area start changes self.old → IsGroup known pages.now area start (changes ++ change.now ∷ []) self.new) }
-        ensures few { OnOk result (length self.new.ranges ≤ length self.old.ranges + 3) }
-        ensures asked { OnOk result ((other : Change) → IsAsked other self.old.places → IsAsked other self.new.places) }
-        ensures disk { IsErrOf result StageFault.Disk → IsLost change.now self.old.places ⊎ (2 ^ 28 ≤ pages.now + length self.old.added) }
+        requires table { table ≤ 31 }
+        requires few { length (group_of self.old).ranges ≤ 3 * 2 ^ 22 }
+        requires none_left { (group_of self.old).places.free table ≡ [] }
+        ensures ok { OnOk result (MakesPage layout.now table pages.now (group_of self.old) (group_of self.new)) }
+        ensures disk { IsErrOf result StageFault.Disk → 2 ^ 28 ≤ pages.now + length (group_of self.old).added }
+    {
+        let extra = self.added.len() as u64;
+        if extra >= PAGES_MAX - pages.count() {
+            return Err(StageFault::Disk);
+        }
+        pages.plan_new_page(table, extra + 1, &mut self.body)?;
+        self.places.offer_page(layout, table, pages.count() + extra)?;
+        self.added.push(table)?;
+        Ok(())
+    }
 }

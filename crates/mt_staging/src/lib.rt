@@ -4,9 +4,9 @@
 //! free before, and that no more pages are made than the rest needs.
 #![tactic(auto)]
 
+mod fault;
 mod group;
+mod parts;
 
-pub use group::{Group, StageFault};
-
-#[cfg(test)]
-mod tests;
+pub use fault::StageFault;
+pub use group::Group;

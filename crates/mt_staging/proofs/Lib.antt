@@ -1,0 +1,13 @@
+pub mod Effects
+pub mod Groups
+pub mod Keeps
+pub mod Keys
+pub mod Lists
+pub mod NewKeys
+pub mod Outside
+pub mod Pairs
+pub mod Paging
+pub mod OneSlot
+pub mod Slots
+pub mod Standing
+pub mod Widths

@@ -1,0 +1,50 @@
+-- Counts over lists of which one member changes.
+use Rattle.std.proofs.Common.{◌≡◌, ℕ, zero, suc, ◌+◌, ◌*◌, ◌<◌, Bool, true, false, cond, nat_eq, List, [], ◌∷◌, ◌++◌, length, drop, get_or, set, replicate, count_by, sum_by, refl, sym, ap, ◌∙◌, arith}
+use Rattle.std.proofs.lemmas.Bool.Decides.{nat_tests}
+use Rattle.std.proofs.lemmas.List.Sums.{sum_by-append, sum_by-set}
+use Rattle.std.proofs.lemmas.List.Folds.{sum_by-replicate}
+use Rattle.mt_tables.specs.Plan.{without_first}
+
+-- 1 where a test is met
+abbrev pub once : Bool → ℕ
+once b = cond b 1 0
+
+-- one member is replaced
+pub count_by-set : {X : Type 0} (p : X → Bool) (xs : List X) (i : ℕ) (y d : X) → i < length xs → count_by p (set xs i y) + once (p (get_or xs i d)) ≡ count_by p xs + once (p y)
+count_by-set p xs i y d within = sum_by-set (λ x. cond (p x) 1 0) xs i y d within
+
+pub count_by-append : {X : Type 0} (p : X → Bool) (xs ys : List X) → count_by p (xs ++ ys) ≡ count_by p xs + count_by p ys
+count_by-append p xs ys = sum_by-append (λ x. cond (p x) 1 0) xs ys
+
+-- a member that does not pass, however often it stands there
+pub count_by-none : {X : Type 0} (p : X → Bool) (n : ℕ) (x : X) → p x ≡ false → count_by p (replicate n x) ≡ 0
+count_by-none p n x fails = sum_by-replicate (λ y. cond (p y) 1 0) n x ∙ ap (λ b. n * once b) fails ∙ times_zero n
+  where
+    times_zero : (m : ℕ) → m * 0 ≡ 0
+    times_zero m = omega arith
+
+pub same_number : (a b : ℕ) → nat_eq a b ≡ nat_eq b a
+same_number a b = grind (arith, nat_tests)
+
+-- the first of a table's positions is gone, and no other's
+pub shorter : (table t p : ℕ) (rest : List ℕ) (free : ℕ → List ℕ) → free table ≡ p ∷ rest → length (without_first table free t) + once (nat_eq table t) ≡ length (free t)
+shorter table t p rest free first = by (nat_eq t table) refl
+  where
+    by : (b : Bool) → nat_eq t table ≡ b → length (cond b (drop 1 (free t)) (free t)) + once (nat_eq table t) ≡ length (free t)
+    by true e =
+        let same : t ≡ table = grind (arith, nat_tests, e) in
+        let list : free t ≡ p ∷ rest = ap free same ∙ first in
+        let one : nat_eq table t ≡ true = same_number table t ∙ e in
+        rw (list, one) (omega arith)
+    by false e = let none : nat_eq table t ≡ false = same_number table t ∙ e in rw none (omega arith)
+
+-- where a table has none there is none to be gone
+pub none_gone : (table : ℕ) (free : ℕ → List ℕ) → free table ≡ [] → without_first table free ≡ free
+none_gone table free none = λ i t. at t i
+  where
+    by : (t : ℕ) (b : Bool) → nat_eq t table ≡ b → cond b (drop 1 (free t)) (free t) ≡ free t
+    by t true e = let same : t ≡ table = grind (arith, nat_tests, e) in let list : free t ≡ [] = ap free same ∙ none in rw list refl
+    by t false e = refl
+
+    at : (t : ℕ) → without_first table free t ≡ free t
+    at t = by t (nat_eq t table) refl
