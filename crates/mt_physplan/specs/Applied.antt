@@ -40,8 +40,8 @@ Catalogue = set.FinSet body_cmp
 
 -- the catalogue after one change
 abbrev pub catalogue_applied_by : Change → Catalogue → Catalogue
-catalogue_applied_by (PutCat table body) catalogue = set.insert catalogue (table, body)
-catalogue_applied_by (RemoveCat table body) catalogue = set.remove catalogue (table, body)
+catalogue_applied_by (PutCat table body) catalogue = finite.insert catalogue (table, body) tt
+catalogue_applied_by (RemoveCat table body) catalogue = finite.remove catalogue (table, body)
 catalogue_applied_by (Put table slot) catalogue = catalogue
 catalogue_applied_by (Mark table tenant row mark) catalogue = catalogue
 catalogue_applied_by (Remove table tenant base chunk row) catalogue = catalogue
