@@ -48,10 +48,7 @@ impl<F: OpenFile + FileExt + Lock + SyncedAside + Drop> Folder<F> {
         self.opened(rt)?.write(area, at, bytes)
     }
 
-    pub(crate) fn sync<R: Files<File = F> + Eprint + Threads>(
-        &mut self,
-        rt: &R,
-    ) -> io::Result<()> {
+    pub(crate) fn sync<R: Files<File = F> + Eprint + Threads>(&mut self, rt: &R) -> io::Result<()> {
         let outcome = self.opened(rt)?.sync(rt);
         self.sync_failed = outcome.is_err();
         outcome

@@ -155,7 +155,10 @@ fn thread_may_fail_to_sync(rt: HostRuntime) -> Result<(), Fail> {
     enter(&outside)?.stuck = false;
     assert_eq!(rt; trial.make_all(&BOTH)?, 6);
     let outside = enter(&outside)?;
-    assert_eq!(rt; outside.log.durable.as_slice(), outside.log.bytes.as_slice());
+    assert_eq!(rt;
+        outside.log.durable.as_slice(),
+        outside.log.bytes.as_slice()
+    );
     assert!(rt; outside.pages.durable.is_empty());
     Ok(())
 }
