@@ -16,11 +16,13 @@ impl SyncedAside for File {
     }
 }
 
-// What stands in the pipe to the thread for one sync that is asked for.
-const ASKED: u8 = b'?';
+// The byte in the pipe to the thread for each sync that it is to make.
+const ASKED: u8 = 0;
 
-// What stands in the pipe back for a sync that succeeded. Anything else is one that failed.
-const SYNCED: u8 = b'!';
+// The bytes in the pipe back for a sync that succeeded, and for one that did not.
+const SYNCED: u8 = 1;
+
+const FAILED: u8 = 2;
 
 /// A thread that syncs a file each time it is asked. It is spoken to through pipes, since no read of one
 /// waits without end: the thread answers, or its end of the pipe is closed.
@@ -86,7 +88,7 @@ fn serve<F: OpenFile>(file: &F, mut asked: PipeReader, mut answers: PipeWriter) 
         }
         let answer = match file.sync_data() {
             Ok(()) => SYNCED,
-            Err(_) => !SYNCED,
+            Err(_) => FAILED,
         };
         if answers.write_all(&[answer]).is_err() {
             return;

@@ -148,6 +148,7 @@ fn thread_may_fail_to_sync(rt: HostRuntime) -> Result<(), Fail> {
     let alloc = rt.alloc();
     let trouble = Trouble::Fails(ErrorKind::Uncategorized);
     let outside = Outside::shared(alloc, 0, trouble)?;
+    enter(&outside)?.together = true;
     enter(&outside)?.stuck = true;
     let mut trial = Trial::new(&rt, alloc, &outside)?;
     // the first sync, and all after it but the emit
@@ -160,6 +161,7 @@ fn thread_may_fail_to_sync(rt: HostRuntime) -> Result<(), Fail> {
         outside.log.bytes.as_slice()
     );
     assert!(rt; outside.pages.durable.is_empty());
+    assert!(rt; outside.notes.contains("sync pages aside"));
     Ok(())
 }
 

@@ -56,7 +56,7 @@ pub struct Outside {
     pub named: bool,
     /// Another process has the lock.
     pub held: bool,
-    /// There are no pipes.
+    /// There are no pipes, so no thread is started.
     pub alone: bool,
     /// Each sync of the log or the pages waits until the other one has begun too.
     pub together: bool,
@@ -200,13 +200,14 @@ impl Outside {
 
     // The begin of a sync.
     fn begin<D: Display + Drop>(&mut self, which: Which, text: D) -> io::Result<()> {
+        let is_pages = matches!(which, Which::Pages);
+        if is_pages || matches!(which, Which::Log) {
+            self.begun = self.begun.saturating_add(1);
+        }
         self.pass(Call::Sync, text)?;
-        self.begun = self.begun.saturating_add(1);
-        if let Which::Pages = which {
-            if self.stuck {
-                self.met = Some(Call::Sync);
-                return Err(ErrorKind::Uncategorized.into());
-            }
+        if is_pages && self.stuck {
+            self.met = Some(Call::Sync);
+            return Err(ErrorKind::Uncategorized.into());
         }
         Ok(())
     }
@@ -387,6 +388,7 @@ impl OpenFile for FakeFile {
         if enter(&self.outside)?.together {
             meet(&self.outside)?;
         }
+        // what was begun may fail, after it was met
         begun?;
         let mut outside = enter(&self.outside)?;
         match self.which {
