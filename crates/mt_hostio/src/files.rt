@@ -1,7 +1,8 @@
-use crate::Lock;
+use crate::{Lock, SyncedAside, Syncer};
 use mt_machine::Area;
 use std::fs::{Files, OpenFile, OpenOptions};
 use std::os::unix::fs::{FileExt, OpenOptionsExt};
+use std::thread::Threads;
 use std::{fs, io};
 
 const LOG: &str = "fold.log";
@@ -69,9 +70,11 @@ pub(crate) struct FolderFiles<F> {
     folder: F,
     // The names of the files may not be on the disk yet.
     unsynced: bool,
+    // Syncs the pages beside the log. The first sync that both need starts it.
+    syncer: Option<Syncer>,
 }
 
-impl<F: OpenFile + FileExt + Lock + Drop> FolderFiles<F> {
+impl<F: OpenFile + FileExt + Lock + SyncedAside + Drop> FolderFiles<F> {
     // Opens the files, and makes those that are missing. The log has its first step of zeros from
     // here on, so that no write covers the first gate but those that are asked for. An error of kind
     // `WouldBlock` is a folder that another process has.
@@ -85,6 +88,7 @@ impl<F: OpenFile + FileExt + Lock + Drop> FolderFiles<F> {
             pages: AreaFile::new(open_own(rt, PAGES)?)?,
             folder: fs::open(rt, ".")?,
             unsynced: true,
+            syncer: None,
         })
     }
 
@@ -107,14 +111,53 @@ impl<F: OpenFile + FileExt + Lock + Drop> FolderFiles<F> {
         }
     }
 
-    pub(crate) fn sync(&mut self) -> io::Result<()> {
-        self.log.sync()?;
-        self.pages.sync()?;
+    pub(crate) fn sync<R: Files<File = F> + Threads>(&mut self, rt: &R) -> io::Result<()> {
+        if self.log.unsynced && self.pages.unsynced {
+            self.sync_both(rt)?;
+        } else {
+            self.log.sync()?;
+            self.pages.sync()?;
+        }
         if self.unsynced {
             self.folder.sync_all()?;
             self.unsynced = false;
         }
         Ok(())
+    }
+
+    // Syncs the log and the pages at once, or one after the other where there is no thread for it.
+    fn sync_both<R: Files<File = F> + Threads>(&mut self, rt: &R) -> io::Result<()> {
+        if self.syncer.is_none() {
+            self.syncer = self.pages.file.start_syncer(rt).ok();
+        }
+        match &self.syncer {
+            Some(syncer) if syncer.begin().is_ok() => {
+                let log = self.log.sync();
+                syncer.finish()?;
+                self.pages.unsynced = false;
+                log
+            }
+            _ => {
+                self.log.sync()?;
+                self.pages.sync()
+            }
+        }
+    }
+}
+
+impl<F: Drop> FolderFiles<F> {
+    // Closes the files, and ends the thread if there is one.
+    pub(crate) fn close<R: Threads>(self, rt: &R) {
+        let FolderFiles {
+            log: _,
+            pages: _,
+            folder: _,
+            unsynced: _,
+            syncer,
+        } = self;
+        if let Some(syncer) = syncer {
+            syncer.stop(rt);
+        }
     }
 }
 

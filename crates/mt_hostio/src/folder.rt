@@ -1,9 +1,10 @@
-use crate::Lock;
 use crate::files::FolderFiles;
+use crate::{Lock, SyncedAside};
 use mt_machine::Area;
 use std::fs::{Files, OpenFile};
 use std::io;
 use std::os::unix::fs::FileExt;
+use std::thread::Threads;
 
 const HELD: &str = "foldsql: another process has this folder";
 
@@ -18,7 +19,7 @@ pub(crate) struct Folder<F> {
     sync_failed: bool,
 }
 
-impl<F: OpenFile + FileExt + Lock + Drop> Folder<F> {
+impl<F: OpenFile + FileExt + Lock + SyncedAside + Drop> Folder<F> {
     pub(crate) fn new() -> Folder<F> {
         Folder {
             files: None,
@@ -47,8 +48,8 @@ impl<F: OpenFile + FileExt + Lock + Drop> Folder<F> {
         self.opened(rt)?.write(area, at, bytes)
     }
 
-    pub(crate) fn sync<R: Files<File = F> + Eprint>(&mut self, rt: &R) -> io::Result<()> {
-        let outcome = self.opened(rt)?.sync();
+    pub(crate) fn sync<R: Files<File = F> + Eprint + Threads>(&mut self, rt: &R) -> io::Result<()> {
+        let outcome = self.opened(rt)?.sync(rt);
         self.sync_failed = outcome.is_err();
         outcome
     }
@@ -65,10 +66,19 @@ impl<F: OpenFile + FileExt + Lock + Drop> Folder<F> {
     }
 }
 
+impl<F: Drop> Folder<F> {
+    // Closes the files, where they are open.
+    pub(crate) fn close<R: Threads>(self, rt: &R) {
+        if let Some(files) = self.files {
+            files.close(rt);
+        }
+    }
+}
+
 // Opens the files. Where another process has them, that is said, once.
 fn open_files<R: Files + Eprint>(rt: &R, said_held: &mut bool) -> io::Result<FolderFiles<R::File>>
 where
-    R::File: FileExt + Lock,
+    R::File: FileExt + Lock + SyncedAside,
 {
     let outcome = FolderFiles::open(rt);
     if let Err(e) = &outcome {

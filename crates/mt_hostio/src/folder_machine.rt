@@ -1,12 +1,13 @@
 ghost use Rattle.std.specs.Prelude.{◌≡◌};
 ghost use Rattle.mt_machine.specs.Calls.{HasCause};
 
-use crate::Lock;
 use crate::folder::Folder;
+use crate::{Lock, SyncedAside};
 use mt_machine::{Area, Failed, Machine};
 use std::fs::Files;
 use std::io;
 use std::os::unix::fs::FileExt;
+use std::thread::Threads;
 
 /// The files `fold.log` and `fold.pages` in the current folder, and standard output.
 ///
@@ -14,17 +15,31 @@ use std::os::unix::fs::FileExt;
 /// missing, and locks the log. Where another process has it, that call fails, and the first such
 /// call says so on standard error; a later call tries again. After a sync that failed each later
 /// call on an area fails. Each failed call of a kind adds one to the count of faults of that kind.
-#[derive(Drop)]
-pub struct FolderMachine<R: Files + Drop> {
+///
+/// Where both files have something to sync, a thread that ends with the machine syncs the pages while the
+/// caller syncs the log.
+pub struct FolderMachine<R: Files + Threads + Drop> {
     rt: R,
     folder: Folder<R::File>,
     pub(crate) disk_faults: u64,
     pub(crate) emit_faults: u64,
 }
 
-impl<R: Files + Print + Eprint + Drop> FolderMachine<R>
+impl<R: Files + Threads + Drop> Drop for FolderMachine<R> {
+    fn drop(self) {
+        let FolderMachine {
+            rt,
+            folder,
+            disk_faults: _,
+            emit_faults: _,
+        } = self;
+        folder.close(&rt);
+    }
+}
+
+impl<R: Files + Print + Eprint + Threads + Drop> FolderMachine<R>
 where
-    R::File: FileExt + Lock,
+    R::File: FileExt + Lock + SyncedAside,
 {
     /// A machine with no file open.
     pub fn new(rt: R) -> FolderMachine<R>
@@ -51,9 +66,9 @@ fn counted(outcome: io::Result<()>, faults: &mut u64) -> Result<(), Failed>
     Ok(())
 }
 
-impl<R: Files + Print + Eprint + Drop> Machine for FolderMachine<R>
+impl<R: Files + Print + Eprint + Threads + Drop> Machine for FolderMachine<R>
 where
-    R::File: FileExt + Lock,
+    R::File: FileExt + Lock + SyncedAside,
 {
     ghost use Rattle.std.specs.Prelude.{false, []};
     ghost use Rattle.std.proofs.lemmas.Bool.{false≢true};

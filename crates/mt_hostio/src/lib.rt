@@ -8,10 +8,12 @@ mod folder;
 mod folder_machine;
 mod lock;
 mod stdin_source;
+mod syncer;
 
 pub use folder_machine::FolderMachine;
 pub use lock::Lock;
 pub use stdin_source::StdinSource;
+pub use syncer::{SyncedAside, Syncer};
 
 #[cfg(test)]
 mod tests;

@@ -1,12 +1,14 @@
 //! Calls on a machine over the fake, each looked at: its answer, the counts of faults, and the files.
 
-use super::fake::{Call, Fake, Outside, Stored, Trouble};
+use super::fake::{Call, Fake, Outside, Shared, Stored, Trouble, enter};
 use crate::FolderMachine;
 use mt_machine::{Area, Failed, Machine};
 use std::alloc::{AllocError, Global};
-use std::cell::RefCell;
+use std::fs::Files;
 use std::io::ErrorKind;
+use std::sync::Arc;
 use std::test::Fail;
+use std::thread::Threads;
 
 /// A call on a machine: an area, a position and a length, and the byte that is written so many times.
 #[derive(Clone, Copy, Debug)]
@@ -34,7 +36,7 @@ impl Held {
 }
 
 // Makes the call, and answers what it read.
-fn make(alloc: Global, machine: &mut FolderMachine<Fake<'_>>, ask: Ask) -> Result<Vec<u8>, Failed> {
+fn make<M: Machine>(alloc: Global, machine: &mut M, ask: Ask) -> Result<Vec<u8>, Failed> {
     let mut read = Vec::new(alloc);
     match ask {
         Ask::Read(area, at, length) => {
@@ -105,6 +107,8 @@ fn did(ask: Ask, read: &[u8], outside: &Outside) -> bool {
 fn is_fault(call: Call, trouble: Trouble) -> bool {
     match (call, trouble) {
         (_, Trouble::Moves) => false,
+        // what a thread needs may be missing
+        (Call::Copy | Call::Pipe, _) => false,
         (Call::Read | Call::Write | Call::Step, Trouble::Fails(ErrorKind::Interrupted)) => false,
         (Call::Step, Trouble::Fails(kind)) => kind != ErrorKind::StorageFull,
         _ => true,
@@ -113,25 +117,28 @@ fn is_fault(call: Call, trouble: Trouble) -> bool {
 
 /// A machine over the fake, and what is to be seen of it.
 #[derive(Drop)]
-pub struct Trial<'o> {
+pub struct Trial<R: Files + Threads + Drop> {
     alloc: Global,
-    outside: &'o RefCell<Outside>,
-    machine: FolderMachine<Fake<'o>>,
+    outside: Shared,
+    machine: FolderMachine<Fake<R>>,
     disk_faults: u64,
     emit_faults: u64,
     sync_failed: bool,
 }
 
-impl<'o> Trial<'o> {
-    pub fn new(alloc: Global, outside: &'o RefCell<Outside>) -> Trial<'o> {
-        Trial {
+impl<R: Files + Threads + Drop> Trial<R> {
+    pub fn new(rt: R, alloc: Global, outside: &Shared) -> Result<Trial<R>, AllocError> {
+        Ok(Trial {
             alloc,
-            outside,
-            machine: FolderMachine::new(Fake { outside }),
+            outside: Arc::try_clone(outside)?,
+            machine: FolderMachine::new(Fake {
+                rt,
+                outside: Arc::try_clone(outside)?,
+            }),
             disk_faults: 0,
             emit_faults: 0,
             sync_failed: false,
-        }
+        })
     }
 
     /// Makes the calls, looks at each, and answers how many of them failed.
@@ -146,9 +153,10 @@ impl<'o> Trial<'o> {
 
     // Makes a call, and fails where something that is to be seen of it is wrong.
     fn make_one(&mut self, ask: Ask) -> Result<Result<(), Failed>, Fail> {
-        let old = Held::of(self.alloc, &*self.outside.try_borrow()?)?;
+        let old = Held::of(self.alloc, &*enter(&self.outside)?)?;
         let answer = make(self.alloc, &mut self.machine, ask);
-        let mut outside = self.outside.try_borrow_mut()?;
+        let outside = Arc::try_clone(&self.outside)?;
+        let mut outside = enter(&outside)?;
         let met = outside.met.take();
         let is_to_fail = self.is_to_fail(ask, met, outside.trouble);
         let did = match &answer {

@@ -1,14 +1,18 @@
 //! A runtime whose files are in memory: it notes each call of the system, and one of them may go wrong.
 ghost use Rattle.std.specs.Prelude.{◌≤◌, length, IsErr};
 
-use crate::Lock;
+use crate::{Lock, SyncedAside, Syncer};
 use std::alloc::{AllocError, Allocator, Global};
-use std::cell::{RefCell, RefMut};
 use std::fmt::Display;
 use std::fs::{Files, Metadata, OpenFile, OpenOptions, TryLockError};
-use std::io;
-use std::io::{ErrorKind, Read, Seek, SeekFrom, Write};
+use std::io::{ErrorKind, PipeReader, PipeWriter, Read, Seek, SeekFrom, Write};
 use std::os::unix::fs::FileExt;
+use std::sync::{Arc, Mutex, MutexGuard};
+use std::thread::Threads;
+use std::{io, thread};
+
+/// How often a sync looks whether the other one has begun.
+const LOOKS: u32 = 10_000_000;
 
 /// What goes wrong at one call.
 #[derive(Clone, Copy, Debug, PartialEq, Eq)]
@@ -31,6 +35,9 @@ pub enum Call {
     Step,
     Sync,
     Print,
+    /// What a thread needs: a descriptor of its own, and pipes.
+    Copy,
+    Pipe,
 }
 
 /// The bytes of a file, and those that a stop would leave.
@@ -49,6 +56,14 @@ pub struct Outside {
     pub named: bool,
     /// Another process has the lock.
     pub held: bool,
+    /// There are no pipes, so no thread is started.
+    pub alone: bool,
+    /// Each sync of the log or the pages waits until the other one has begun too.
+    pub together: bool,
+    /// A sync of the pages fails.
+    pub stuck: bool,
+    /// How many syncs of the log and the pages have begun.
+    begun: u32,
     /// How long a file may become.
     pub room: usize,
     pub notes: String,
@@ -68,17 +83,23 @@ enum Which {
     Folder,
 }
 
-/// The runtime.
-#[derive(Clone, Copy)]
-pub struct Fake<'o> {
-    pub outside: &'o RefCell<Outside>,
+/// The outside, which the test and each open file have a part in.
+pub type Shared = Arc<Mutex<Outside>, Global>;
+
+/// The runtime, with the threads and the pipes of another one.
+#[derive(Drop)]
+pub struct Fake<R> {
+    pub rt: R,
+    pub outside: Shared,
 }
 
 /// An open file of it.
 #[derive(Drop)]
-pub struct FakeFile<'o> {
-    outside: &'o RefCell<Outside>,
+pub struct FakeFile {
+    outside: Shared,
     which: Which,
+    // The copy that a thread has.
+    aside: bool,
 }
 
 impl Stored {
@@ -126,6 +147,10 @@ impl Outside {
             pages: Stored::new(alloc),
             named: false,
             held: false,
+            alone: false,
+            together: false,
+            stuck: false,
+            begun: 0,
             room: 1 << 20,
             notes: String::new(alloc),
             said: String::new(alloc),
@@ -136,15 +161,33 @@ impl Outside {
         }
     }
 
+    /// An empty folder, shared.
+    pub fn shared(alloc: Global, wrong: u32, trouble: Trouble) -> Result<Shared, AllocError> {
+        Ok(Arc::new(alloc, Mutex::new(Outside::new(alloc, wrong, trouble)))?)
+    }
+
+    // Counts a call, and answers the trouble that is to come of it.
+    fn count(&mut self, call: Call) -> Option<Trouble> {
+        self.calls = self.calls.wrapping_add(1);
+        if self.calls != self.wrong {
+            return None;
+        }
+        self.met = Some(call);
+        Some(self.trouble)
+    }
+
+    // Counts a call that starts a thread. Such calls are not noted.
+    fn pass_unnoted(&mut self, call: Call) -> io::Result<()> {
+        match self.count(call) {
+            Some(Trouble::Fails(kind)) => Err(kind.into()),
+            _ => Ok(()),
+        }
+    }
+
     // Notes a call, and answers the trouble that is to come of it.
     fn note<D: Display + Drop>(&mut self, call: Call, text: D) -> io::Result<Option<Trouble>> {
         writeln!(self.notes, "{text}")?;
-        self.calls = self.calls.wrapping_add(1);
-        if self.calls != self.wrong {
-            return Ok(None);
-        }
-        self.met = Some(call);
-        Ok(Some(self.trouble))
+        Ok(self.count(call))
     }
 
     // A call that moves no bytes.
@@ -153,6 +196,20 @@ impl Outside {
             Some(Trouble::Fails(kind)) => Err(kind.into()),
             _ => Ok(()),
         }
+    }
+
+    // The begin of a sync.
+    fn begin<D: Display + Drop>(&mut self, which: Which, text: D) -> io::Result<()> {
+        let is_pages = matches!(which, Which::Pages);
+        if is_pages || matches!(which, Which::Log) {
+            self.begun = self.begun.saturating_add(1);
+        }
+        self.pass(Call::Sync, text)?;
+        if is_pages && self.stuck {
+            self.met = Some(Call::Sync);
+            return Err(ErrorKind::Uncategorized.into());
+        }
+        Ok(())
     }
 
     fn stored(&mut self, which: Which) -> io::Result<&mut Stored> {
@@ -172,10 +229,26 @@ fn name(which: Which) -> &'static str {
     }
 }
 
-fn enter(outside: &RefCell<Outside>) -> io::Result<RefMut<'_, Outside>> {
-    outside
-        .try_borrow_mut()
-        .map_err(|_| ErrorKind::Deadlock.into())
+/// Takes the lock, under which nothing waits.
+pub fn enter(outside: &Shared) -> io::Result<MutexGuard<'_, Outside>> {
+    for _ in 0..u64::MAX {
+        if let Some(guard) = outside.try_lock() {
+            return Ok(guard);
+        }
+        thread::yield_now();
+    }
+    Err(ErrorKind::Deadlock.into())
+}
+
+// Waits until a sync of the log and one of the pages have begun.
+fn meet(outside: &Shared) -> io::Result<()> {
+    for _ in 0..LOOKS {
+        if enter(outside)?.begun > 1 {
+            return Ok(());
+        }
+        thread::yield_now();
+    }
+    Err(ErrorKind::TimedOut.into())
 }
 
 fn refused<T>() -> io::Result<T>
@@ -184,12 +257,14 @@ fn refused<T>() -> io::Result<T>
     Err(ErrorKind::Unsupported.into())
 }
 
-impl<'o> Files for Fake<'o> {
-    type File = FakeFile<'o>;
+impl<R: Threads> Threads for Fake<R> {}
 
-    type Dir = FakeFile<'o>;
+impl<R: Files> Files for Fake<R> {
+    type File = FakeFile;
 
-    fn open_file(&self, how: &OpenOptions, path: &str) -> io::Result<FakeFile<'o>> {
+    type Dir = FakeFile;
+
+    fn open_file(&self, how: &OpenOptions, path: &str) -> io::Result<FakeFile> {
         how.check()?;
         let which = match path {
             "fold.log" => Which::Log,
@@ -198,14 +273,23 @@ impl<'o> Files for Fake<'o> {
             _ => return Err(ErrorKind::NotFound.into()),
         };
         let name = name(which);
-        enter(self.outside)?.pass(Call::Open, format_args!("open {name}"))?;
+        enter(&self.outside)?.pass(Call::Open, format_args!("open {name}"))?;
         Ok(FakeFile {
-            outside: self.outside,
+            outside: Arc::try_clone(&self.outside)?,
             which,
+            aside: false,
         })
     }
 
-    fn open_dir(&self, _path: &str) -> io::Result<FakeFile<'o>> {
+    fn pipe(&self) -> io::Result<(PipeReader, PipeWriter)> {
+        if enter(&self.outside)?.alone {
+            return refused();
+        }
+        enter(&self.outside)?.pass_unnoted(Call::Pipe)?;
+        self.rt.pipe()
+    }
+
+    fn open_dir(&self, _path: &str) -> io::Result<FakeFile> {
         refused()
     }
 
@@ -242,7 +326,7 @@ impl<'o> Files for Fake<'o> {
     }
 }
 
-impl Print for Fake<'_> {
+impl<R> Print for Fake<R> {
     fn print<D: Display + Drop>(&self, _value: D) -> io::Result<()> {
         refused()
     }
@@ -253,26 +337,26 @@ impl Print for Fake<'_> {
 
     fn write_all(&self, bytes: &[u8]) -> io::Result<()> {
         let length = bytes.len();
-        enter(self.outside)?.pass(Call::Print, format_args!("print {length}"))
+        enter(&self.outside)?.pass(Call::Print, format_args!("print {length}"))
     }
 }
 
-impl Eprint for Fake<'_> {
+impl<R> Eprint for Fake<R> {
     fn eprint<D: Display + Drop>(&self, value: D) -> io::Result<()> {
-        write!(enter(self.outside)?.said, "{value}")?;
+        write!(enter(&self.outside)?.said, "{value}")?;
         Ok(())
     }
 
     fn eprintln<D: Display + Drop>(&self, value: D) -> io::Result<()> {
-        writeln!(enter(self.outside)?.said, "{value}")?;
+        writeln!(enter(&self.outside)?.said, "{value}")?;
         Ok(())
     }
 }
 
-impl Lock for FakeFile<'_> {
+impl Lock for FakeFile {
     fn try_lock(&self) -> Result<(), TryLockError> {
         let name = name(self.which);
-        let mut outside = enter(self.outside).map_err(TryLockError::Error)?;
+        let mut outside = enter(&self.outside).map_err(TryLockError::Error)?;
         outside
             .pass(Call::Lock, format_args!("lock {name}"))
             .map_err(TryLockError::Error)?;
@@ -284,10 +368,10 @@ impl Lock for FakeFile<'_> {
     }
 }
 
-impl OpenFile for FakeFile<'_> {
+impl OpenFile for FakeFile {
     fn metadata(&self) -> io::Result<Metadata> {
         let name = name(self.which);
-        let mut outside = enter(self.outside)?;
+        let mut outside = enter(&self.outside)?;
         outside.pass(Call::Length, format_args!("length {name}"))?;
         let length = outside.stored(self.which)?.bytes.len();
         Ok(Metadata::of_file(length as u64))
@@ -299,8 +383,14 @@ impl OpenFile for FakeFile<'_> {
 
     fn sync_all(&self) -> io::Result<()> {
         let name = name(self.which);
-        let mut outside = enter(self.outside)?;
-        outside.pass(Call::Sync, format_args!("sync {name}"))?;
+        let aside = if self.aside { " aside" } else { "" };
+        let begun = enter(&self.outside)?.begin(self.which, format_args!("sync {name}{aside}"));
+        if enter(&self.outside)?.together {
+            meet(&self.outside)?;
+        }
+        // what was begun may fail, after it was met
+        begun?;
+        let mut outside = enter(&self.outside)?;
         match self.which {
             Which::Folder => outside.named = true,
             which => outside.stored(which)?.sync()?,
@@ -311,13 +401,28 @@ impl OpenFile for FakeFile<'_> {
     fn sync_data(&self) -> io::Result<()> {
         self.sync_all()
     }
+
+    fn try_clone(&self) -> io::Result<FakeFile> {
+        enter(&self.outside)?.pass_unnoted(Call::Copy)?;
+        Ok(FakeFile {
+            outside: Arc::try_clone(&self.outside)?,
+            which: self.which,
+            aside: true,
+        })
+    }
 }
 
-impl FileExt for FakeFile<'_> {
+impl SyncedAside for FakeFile {
+    fn start_syncer<R: Files + Threads>(&self, rt: &R) -> io::Result<Syncer> {
+        Syncer::start(rt, self.try_clone()?)
+    }
+}
+
+impl FileExt for FakeFile {
     fn read_at(&self, buf: &mut [u8], offset: u64) -> io::Result<usize> {
         let name = name(self.which);
         let (at, mut length) = (offset as usize, buf.len());
-        let mut outside = enter(self.outside)?;
+        let mut outside = enter(&self.outside)?;
         match outside.note(Call::Read, format_args!("read {name} {at} {length}"))? {
             Some(Trouble::Fails(kind)) => return Err(kind.into()),
             Some(Trouble::Moves) => length = length.div_ceil(2),
@@ -329,7 +434,7 @@ impl FileExt for FakeFile<'_> {
     fn write_at(&self, buf: &[u8], offset: u64) -> io::Result<usize> {
         let name = name(self.which);
         let (at, length) = (offset as usize, buf.len());
-        let mut outside = enter(self.outside)?;
+        let mut outside = enter(&self.outside)?;
         let call = if buf.iter().all(|byte| *byte == 0) {
             Call::Step
         } else {
@@ -352,13 +457,13 @@ impl FileExt for FakeFile<'_> {
     }
 }
 
-impl Read for FakeFile<'_> {
+impl Read for FakeFile {
     fn read(&mut self, _buf: &mut [u8]) -> io::Result<usize> {
         refused()
     }
 }
 
-impl Write for FakeFile<'_> {
+impl Write for FakeFile {
     fn write(&mut self, _buf: &[u8]) -> io::Result<usize> {
         refused()
     }
@@ -368,7 +473,7 @@ impl Write for FakeFile<'_> {
     }
 }
 
-impl Seek for FakeFile<'_> {
+impl Seek for FakeFile {
     fn seek(&mut self, _to: SeekFrom) -> io::Result<u64> {
         refused()
     }
