@@ -1,6 +1,7 @@
 pub mod AllPages
 pub mod Begun
 pub mod Chosen
+pub mod Committing
 pub mod InUse
 pub mod Kept
 pub mod Looking

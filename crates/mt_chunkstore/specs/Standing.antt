@@ -1,5 +1,5 @@
 -- How a store stands for a machine.
-use Rattle.std.specs.Prelude.{◌≡◌, ℕ, ◌-◌, ◌&&◌, Bool, IsTrue, nat_eq, nat_le, not, is_some, List, length, map, filter, count_by, slice_index}
+use Rattle.std.specs.Prelude.{◌≡◌, ℕ, ◌+◌, ◌-◌, ◌^◌, min, ◌&&◌, Bool, IsTrue, nat_eq, nat_le, not, is_some, List, length, map, filter, count_by, slice_index}
 use Rattle.std.specs.List.{range_with_len}
 use Rattle.mt_machine.specs.declared.machine.Area.TheVariants.{Pages}
 use Rattle.mt_machine.specs.Meaning.{Meaning}
@@ -48,3 +48,7 @@ size_in store table = record { table = table; pages = count_by (λ t. nat_eq t t
 -- those of the tables that have a page and a layout that is known, ascending
 abbrev pub sizes_in : Store → List TableSize
 sizes_in store = map (size_in store) (filter (has_size store) (range_with_len 1 31))
+
+-- how many slots of a table are in use once a group took and freed so many, in a count of 64 bits
+abbrev pub used_after : ℕ → ℕ → ℕ → ℕ
+used_after used taken freed = min (used + taken) (2 ^ 64 - 1) - freed

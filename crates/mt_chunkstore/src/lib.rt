@@ -2,6 +2,7 @@
 //! gives the slots that it asks for in order of Row and looks at no page of another table.
 #![tactic(auto)]
 
+mod commit;
 mod lent;
 mod page_scan;
 mod sizes;
@@ -9,6 +10,7 @@ mod store;
 mod survey;
 mod table_scan;
 
+pub use commit::Staged;
 pub use lent::Lent;
 pub use sizes::{Sizes, TableSize};
 pub use store::{Store, StoreFault};
