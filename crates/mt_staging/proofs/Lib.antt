@@ -1,4 +1,5 @@
 pub mod Effects
+pub mod Finding
 pub mod Groups
 pub mod Keeps
 pub mod Keys

@@ -104,6 +104,7 @@ impl Group {
         requires none_left { (group_of self.old).places.free table ≡ [] }
         ensures ok { OnOk result (MakesPage layout.now table pages.now (group_of self.old) (group_of self.new)) }
         ensures disk { IsErrOf result StageFault.Disk → 2 ^ 28 ≤ pages.now + length (group_of self.old).added }
+        ensures ranges { OnOk result (length (group_of self.new).ranges ≡ length (group_of self.old).ranges + 2) }
     {
         let extra = self.added.len() as u64;
         if extra >= PAGES_MAX - pages.count() {
@@ -113,5 +114,25 @@ impl Group {
         self.places.offer_page(layout, table, pages.count() + extra)?;
         self.added.push(table)?;
         Ok(())
+    }
+
+    /// A free position of a table, which is taken; a page is made where there is none.
+    fn free_place(&mut self, layout: &Layout, pages: &Pages, table: u32) -> Result<u64, StageFault>
+        requires layout { IsLayout layout.now }
+        requires room { 1 ≤ slots_per_page layout.now }
+        requires table { table ≤ 31 }
+        requires few { length (group_of self.old).ranges ≤ 3 * 2 ^ 22 }
+        ensures ok { IfOk result (λ position. FindsFree layout.now table pages.now position (group_of self.old) (group_of self.new)) }
+        ensures disk { IsErrOf result StageFault.Disk → ((group_of self.old).places.free table ≡ []) × (2 ^ 28 ≤ pages.now + length (group_of self.old).added) }
+        ensures ranges { OnOk result (length (group_of self.new).ranges ≤ length (group_of self.old).ranges + 2) }
+    {
+        if let Some(position) = self.places.take_free(table) {
+            return Ok(position);
+        }
+        self.make_page(layout, pages, table)?;
+        match self.places.take_free(table) {
+            Some(position) => Ok(position),
+            None => unreachable!(),
+        }
     }
 }
