@@ -45,7 +45,7 @@ pub struct Group {
 impl Group {
     ghost use Rattle.mt_staging.specs.Group.{IsAsked, IsGroup, IsLost, NeedsPage, Suits};
     ghost use Rattle.mt_staging.specs.States.{IsEmptyGroup, group_of};
-    ghost use Rattle.mt_staging.specs.Steps.{FindsFree, MakesPage};
+    ghost use Rattle.mt_staging.specs.Steps.{FindsFree, MakesPage, PutFaults, TakesAway, WriteFaults, WritesFree, WritesOver, with_row};
 
     /// A group of no ranges. `AllocError` is want of memory.
     pub fn new(alloc: Global, places: Places) -> Result<Group, AllocError>
@@ -133,6 +133,57 @@ impl Group {
         match self.places.take_free(table) {
             Some(position) => Ok(position),
             None => unreachable!(),
+        }
+    }
+
+    /// Puts a slot of a row that stands nowhere.
+    fn put_new(&mut self, layout: &Layout, pages: &Pages, key: &Key, bytes: &[u8]) -> Result<(), StageFault>
+        requires layout { IsLayout layout.now }
+        requires room { 1 ≤ slots_per_page layout.now }
+        requires table { key.now.table ≤ 31 }
+        requires few { length (group_of self.old).ranges ≤ 3 * 2 ^ 22 }
+        requires short { length bytes.now ≤ 4096 }
+        requires nowhere { finite.get (group_of self.old).places.rows key.now ≡ Some None }
+        ensures ok { OnOk result (WritesFree layout.now key.now.table pages.now (finite.get (group_of self.old).places.rows key.now) bytes.now (with_row key.now) (group_of self.old) (group_of self.new)) }
+        ensures disk { IsErrOf result StageFault.Disk → PutFaults layout.now key.now.table pages.now (finite.get (group_of self.old).places.rows key.now) bytes.now (group_of self.old) }
+        ensures ranges { OnOk result (length (group_of self.new).ranges ≤ length (group_of self.old).ranges + 3) }
+    {
+        let position = self.free_place(layout, pages, key.table)?;
+        write(&mut self.body, position, bytes)?;
+        self.places.set_row(key, Some(position));
+        count_one(&mut self.taken, key.table);
+        Ok(())
+    }
+
+    /// Marks a row. `Disk` comes where it stands nowhere, or not in the pages.
+    fn mark(&mut self, key: &Key, mark: u8) -> Result<(), StageFault>
+        requires asked { IsTrue (finite.contains_key (group_of self.old).places.rows key.now) }
+        requires few { length (group_of self.old).ranges ≤ 3 * 2 ^ 22 }
+        ensures ok { OnOk result (WritesOver (finite.get (group_of self.old).places.rows key.now) (mark ∷ []) (group_of self.old) (group_of self.new)) }
+        ensures disk { IsErrOf result StageFault.Disk → WriteFaults (finite.get (group_of self.old).places.rows key.now) (mark ∷ []) }
+    {
+        match self.places.row(key) {
+            Some(position) => write(&mut self.body, position, &[mark]),
+            None => Err(StageFault::Disk),
+        }
+    }
+
+    /// Removes a row. Its slot is not taken by this group.
+    fn remove(&mut self, key: &Key) -> Result<(), StageFault>
+        requires asked { IsTrue (finite.contains_key (group_of self.old).places.rows key.now) }
+        requires table { key.now.table ≤ 31 }
+        requires few { length (group_of self.old).ranges ≤ 3 * 2 ^ 22 }
+        ensures ok { OnOk result (TakesAway key.now.table (finite.get (group_of self.old).places.rows key.now) (with_row key.now) (group_of self.old) (group_of self.new)) }
+        ensures disk { IsErrOf result StageFault.Disk → WriteFaults (finite.get (group_of self.old).places.rows key.now) (0 ∷ []) }
+    {
+        match self.places.row(key) {
+            Some(position) => {
+                write(&mut self.body, position, &[FREE])?;
+                self.places.set_row(key, None);
+                count_one(&mut self.freed, key.table);
+                Ok(())
+            }
+            None => Err(StageFault::Disk),
         }
     }
 }
