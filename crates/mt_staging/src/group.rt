@@ -2,7 +2,11 @@ ghost use Rattle.std.specs.Prelude.{◌≡◌, ℕ, ◌⊎◌, ◌*◌, ◌+◌,
 ghost use Rattle.std.specs.FinMap as finite;
 ghost use Rattle.std.proofs.Props.{props};
 ghost use Rattle.mt_journal.specs.Layout.{Area};
-ghost use Rattle.mt_rowfile.specs.Layouts.{IsLayout, slots_per_page};
+ghost use Rattle.mt_rowfile.specs.Layouts.{IsLayout, IsOfRows, body_width, slots_per_page};
+ghost use Rattle.mt_rowfile.specs.declared.layout.Head.TheVariants.{Catalogue};
+ghost use Rattle.mt_rowfile.specs.Fields.{AreKinds};
+ghost use Rattle.mt_rowfile.specs.Slots.{FitsLayout, HasNumbers, slot_bytes};
+ghost use Rattle.mt_physplan.specs.Keys.{key_in};
 ghost use Rattle.mt_physplan.specs.declared.change.Change.{Change};
 ghost use Rattle.mt_places.specs.Named.{table_of};
 ghost use Rattle.mt_places.specs.Parts.{state_of};
@@ -45,7 +49,7 @@ pub struct Group {
 impl Group {
     ghost use Rattle.mt_staging.specs.Group.{IsAsked, IsGroup, IsLost, NeedsPage, Suits};
     ghost use Rattle.mt_staging.specs.States.{IsEmptyGroup, group_of};
-    ghost use Rattle.mt_staging.specs.Steps.{FindsFree, MakesPage, PutFaults, TakesAway, WriteFaults, WritesFree, WritesOver, with_row};
+    ghost use Rattle.mt_staging.specs.Steps.{FindsFree, MakesPage, PutFaults, TakesAway, WriteFaults, WritesFree, WritesOver, PutsSlot, with_body, with_row};
 
     /// A group of no ranges. `AllocError` is want of memory.
     pub fn new(alloc: Global, places: Places) -> Result<Group, AllocError>
@@ -181,6 +185,91 @@ impl Group {
                 write(&mut self.body, position, &[FREE])?;
                 self.places.set_row(key, None);
                 count_one(&mut self.freed, key.table);
+                Ok(())
+            }
+            None => Err(StageFault::Disk),
+        }
+    }
+
+    /// Puts a slot of a row, over the one that stands or where one is free.
+    fn put(&mut self, layout: &Layout, pages: &Pages, table: u32, slot: &SlotRow) -> Result<(), StageFault>
+        requires layout { IsLayout layout.now }
+        requires rows { IsOfRows layout.now.head }
+        requires fits { FitsLayout layout.now slot.now }
+        requires room { 1 ≤ slots_per_page layout.now }
+        requires table { table ≤ 31 }
+        requires few { length (group_of self.old).ranges ≤ 3 * 2 ^ 22 }
+        requires asked { IsTrue (finite.contains_key (group_of self.old).places.rows (key_in table slot.now)) }
+        ensures ok { OnOk result (PutsSlot layout.now table pages.now (finite.get (group_of self.old).places.rows (key_in table slot.now)) (slot_bytes layout.now slot.now) (with_row (key_in table slot.now)) (group_of self.old) (group_of self.new)) }
+        ensures disk { IsErrOf result StageFault.Disk → PutFaults layout.now table pages.now (finite.get (group_of self.old).places.rows (key_in table slot.now)) (slot_bytes layout.now slot.now) (group_of self.old) }
+        ensures ranges { OnOk result (length (group_of self.new).ranges ≤ length (group_of self.old).ranges + 3) }
+        ensures numbers { HasNumbers slot.now }
+        ensures kinds { AreKinds layout.now.kinds }
+    {
+        see_kinds(layout.kinds.as_slice());
+        let key = key_of(table, slot);
+        let mut buffer = [0; PAGE_SIZE];
+        let (bytes, _) = buffer.split_at_mut(slot_width(layout));
+        write_slot(layout, slot, bytes);
+        match self.places.row(&key) {
+            Some(position) => write(&mut self.body, position, bytes),
+            None => self.put_new(layout, pages, &key, bytes),
+        }
+    }
+
+    /// Puts a slot of the catalogue that stands nowhere.
+    fn put_new_body(&mut self, layout: &Layout, pages: &Pages, table: u32, body: &CatBody, bytes: &[u8]) -> Result<(), StageFault>
+        requires layout { IsLayout layout.now }
+        requires room { 1 ≤ slots_per_page layout.now }
+        requires table { table ≤ 31 }
+        requires few { length (group_of self.old).ranges ≤ 3 * 2 ^ 22 }
+        requires short { length bytes.now ≤ 4096 }
+        requires nowhere { finite.get (group_of self.old).places.bodies (table, body.now) ≡ Some None }
+        ensures ok { OnOk result (WritesFree layout.now table pages.now (finite.get (group_of self.old).places.bodies (table, body.now)) bytes.now (with_body (table, body.now)) (group_of self.old) (group_of self.new)) }
+        ensures disk { IsErrOf result StageFault.Disk → PutFaults layout.now table pages.now (finite.get (group_of self.old).places.bodies (table, body.now)) bytes.now (group_of self.old) }
+        ensures ranges { OnOk result (length (group_of self.new).ranges ≤ length (group_of self.old).ranges + 3) }
+    {
+        let position = self.free_place(layout, pages, table)?;
+        write(&mut self.body, position, bytes)?;
+        self.places.set_body(table, body, Some(position));
+        count_one(&mut self.taken, table);
+        Ok(())
+    }
+
+    /// Puts a slot of the catalogue, over the one that stands or where one is free.
+    fn put_body(&mut self, layout: &Layout, pages: &Pages, table: u32, body: &CatBody) -> Result<(), StageFault>
+        requires layout { IsLayout layout.now }
+        requires head { layout.now.head ≡ Catalogue table }
+        requires size { length body.now ≡ body_width table }
+        requires table { table ≤ 31 }
+        requires few { length (group_of self.old).ranges ≤ 3 * 2 ^ 22 }
+        requires asked { IsTrue (finite.contains_key (group_of self.old).places.bodies (table, body.now)) }
+        ensures ok { OnOk result (PutsSlot layout.now table pages.now (finite.get (group_of self.old).places.bodies (table, body.now)) (1 ∷ body.now) (with_body (table, body.now)) (group_of self.old) (group_of self.new)) }
+        ensures disk { IsErrOf result StageFault.Disk → PutFaults layout.now table pages.now (finite.get (group_of self.old).places.bodies (table, body.now)) (1 ∷ body.now) (group_of self.old) }
+        ensures ranges { OnOk result (length (group_of self.new).ranges ≤ length (group_of self.old).ranges + 3) }
+    {
+        let mut buffer = [0; CATALOGUE_SLOT];
+        let (bytes, _) = buffer.split_at_mut(body.len() + 1);
+        write_body(body, bytes);
+        match self.places.body(table, body) {
+            Some(position) => write(&mut self.body, position, bytes),
+            None => self.put_new_body(layout, pages, table, body, bytes),
+        }
+    }
+
+    /// Removes a slot of the catalogue. Its slot is not taken by this group.
+    fn remove_body(&mut self, table: u32, body: &CatBody) -> Result<(), StageFault>
+        requires asked { IsTrue (finite.contains_key (group_of self.old).places.bodies (table, body.now)) }
+        requires table { table ≤ 31 }
+        requires few { length (group_of self.old).ranges ≤ 3 * 2 ^ 22 }
+        ensures ok { OnOk result (TakesAway table (finite.get (group_of self.old).places.bodies (table, body.now)) (with_body (table, body.now)) (group_of self.old) (group_of self.new)) }
+        ensures disk { IsErrOf result StageFault.Disk → WriteFaults (finite.get (group_of self.old).places.bodies (table, body.now)) (0 ∷ []) }
+    {
+        match self.places.body(table, body) {
+            Some(position) => {
+                write(&mut self.body, position, &[FREE])?;
+                self.places.set_body(table, body, None);
+                count_one(&mut self.freed, table);
                 Ok(())
             }
             None => Err(StageFault::Disk),
