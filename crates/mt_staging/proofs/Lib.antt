@@ -1,3 +1,4 @@
+pub mod Adds
 pub mod Counting
 pub mod Effects
 pub mod Finding
@@ -5,6 +6,7 @@ pub mod Groups
 pub mod Keeps
 pub mod Keys
 pub mod Lists
+pub mod Low
 pub mod NewKeys
 pub mod Outside
 pub mod Pairs

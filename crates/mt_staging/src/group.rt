@@ -1,4 +1,4 @@
-ghost use Rattle.std.specs.Prelude.{◌≡◌, ℕ, ◌⊎◌, ◌*◌, ◌+◌, ◌-◌, ◌^◌, ◌<◌, ◌≤◌, [], ◌∷◌, ◌++◌, length, Option, Some, None, IfOk, OnOk, OnErr, IsErrOf, IsTrue, slice_index, slice_get};
+ghost use Rattle.std.specs.Prelude.{◌≡◌, ℕ, List, ◌⊎◌, ◌*◌, ◌+◌, ◌-◌, ◌^◌, ◌<◌, ◌≤◌, [], ◌∷◌, ◌++◌, length, Option, Some, None, IfOk, OnOk, OnErr, IsErrOf, IsTrue, slice_index, slice_get};
 ghost use Rattle.std.specs.FinMap as finite;
 ghost use Rattle.std.proofs.Props.{props};
 ghost use Rattle.mt_journal.specs.Layout.{Area};
@@ -98,6 +98,32 @@ impl Group {
         ensures { result ≡ (group_of self.now).freed table }
     {
         self.freed.get(table as usize).copied().unwrap_or(0)
+    }
+
+    /// Adds the ranges of a change of a table with this layout. `Disk` comes only where the change marks or removes what
+    /// does not stand, or a page is wanted and there are 2^28; `Memory` is want of memory. After a fault the group is not
+    /// used again.
+    pub fn add(&mut self, layout: &Layout, pages: &Pages, change: &Change) -> Result<(), StageFault>
+        requires layout { IsLayout layout.now }
+        requires suits { Suits layout.now change.now }
+        requires table { table_of change.now ≤ 31 }
+        requires asked { IsAsked change.now (group_of self.old).places }
+        requires few { length (group_of self.old).ranges ≤ 3 * 2 ^ 22 }
+        ensures ok { OnOk result ((known : KnownLayouts) (area : Area) (start : ℕ → ℕ) (changes : List Change) → AreKnown known → layout_of known (table_of change.now) ≡ Some layout.now
+            → IsGroup known pages.now area start changes (group_of self.old) → IsGroup known pages.now area start (changes ++ change.now ∷ []) (group_of self.new)) }
+        ensures few { OnOk result (length (group_of self.new).ranges ≤ length (group_of self.old).ranges + 3) }
+        ensures asked { OnOk result ((other : Change) → IsAsked other (group_of self.old).places → IsAsked other (group_of self.new).places) }
+        ensures disk { IsErrOf result StageFault.Disk → (known : KnownLayouts) (area : Area) (start : ℕ → ℕ) (changes : List Change) → AreKnown known → layout_of known (table_of change.now) ≡ Some layout.now
+            → IsGroup known pages.now area start changes (group_of self.old)
+            → IsLost change.now (group_of self.old).places ⊎ ((2 ^ 28 ≤ pages.now + length (group_of self.old).added) × NeedsPage change.now (group_of self.old).places) }
+    {
+        match change {
+            Change::Put { table, slot } => self.put(layout, pages, *table, slot),
+            Change::Mark { table, tenant, row, mark } => self.mark(&make_key(*table, *tenant, 0, 0, *row), *mark),
+            Change::Remove { table, tenant, base, chunk, row } => self.remove(&make_key(*table, *tenant, *base, *chunk, *row)),
+            Change::PutCat { table, body } => self.put_body(layout, pages, *table, body),
+            Change::RemoveCat { table, body } => self.remove_body(*table, body),
+        }
     }
 
     /// Makes a page of a table, of which no slot is free.
