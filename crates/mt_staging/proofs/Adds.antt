@@ -86,17 +86,18 @@ module _ (layout : Layout) (count : ℕ) (old new : GroupState) (sound : IsLayou
       subst (λ c. Suits layout c → table_of c ≤ 31 → Keeps layout count c old new) (sym is)
       (λ suits small known area start changes are found g. put_keeps known count area start changes old g layout table slot found suits.0 suits.2 kinds suits.1 numbers small new puts) suits small
 
-  pub mark_kept : (change : Change) (table tenant row mark : ℕ) → change ≡ Mark table tenant row mark → Suits layout change
-      → WritesOver (finite.get old.places.rows (conventional_key table tenant row)) (mark ∷ []) old new → Keeps layout count change old new
-  mark_kept change table tenant row mark is suits w =
+  pub mark_kept : (change : Change) (table tenant row mark : ℕ) (key : Key) → change ≡ Mark table tenant row mark → Suits layout change → key ≡ conventional_key table tenant row
+      → WritesOver (finite.get old.places.rows key) (mark ∷ []) old new → Keeps layout count change old new
+  mark_kept change table tenant row mark key is suits named w =
       subst (λ c. Suits layout c → Keeps layout count c old new) (sym is)
-      (λ suits known area start changes are found g. mark_keeps known count area start changes old g layout table tenant row mark new found suits.0 suits.1 w) suits
+      (λ suits known area start changes are found g. mark_keeps known count area start changes old g layout table tenant row mark new found suits.0 suits.1 (subst (λ k. WritesOver (finite.get old.places.rows k) (mark ∷ []) old new) named w)) suits
 
-  pub remove_kept : (change : Change) (table tenant base chunk row : ℕ) → change ≡ Remove table tenant base chunk row → Suits layout change
-      → TakesAway table (finite.get old.places.rows (record { table = table; tenant = tenant; base = base; chunk = chunk; row = row })) (with_row (record { table = table; tenant = tenant; base = base; chunk = chunk; row = row })) old new → Keeps layout count change old new
-  remove_kept change table tenant base chunk row is suits w =
+  pub remove_kept : (change : Change) (table tenant base chunk row : ℕ) (key : Key) → change ≡ Remove table tenant base chunk row → Suits layout change → key ≡ record { table = table; tenant = tenant; base = base; chunk = chunk; row = row }
+      → TakesAway key.table (finite.get old.places.rows key) (with_row key) old new → Keeps layout count change old new
+  remove_kept change table tenant base chunk row key is suits named w =
       subst (λ c. Suits layout c → Keeps layout count c old new) (sym is)
-      (λ suits known area start changes are found g. remove_keeps known count area start changes old g layout table tenant base chunk row new found suits w) suits
+      (λ suits known area start changes are found g. remove_keeps known count area start changes old g layout table tenant base chunk row new found suits
+      (subst (λ (k : Key). TakesAway k.table (finite.get old.places.rows k) (with_row k) old new) named w)) suits
 
   pub put_body_kept : (change : Change) (table : ℕ) (body : List ℕ) → change ≡ PutCat table body → Suits layout change → table_of change ≤ 31
       → PutsSlot layout table count (finite.get old.places.bodies (table, body)) (1 ∷ body) (with_body (table, body)) old new → Keeps layout count change old new
@@ -154,16 +155,15 @@ module _ (layout : Layout) (count : ℕ) (old : GroupState) (sound : IsLayout la
       absurd (not_far f.position 1 ((sizes_of known).width key.table) (row_low known count area start changes old g key f.position f.stands) some f.far)
   row_faults known area start changes key mark g (inr none) = none
 
-  pub mark_faults : (change : Change) (table tenant row mark : ℕ) → change ≡ Mark table tenant row mark → WriteFaults (finite.get old.places.rows (conventional_key table tenant row)) (mark ∷ []) → Faults layout count change old
-  mark_faults change table tenant row mark is faults =
+  pub mark_faults : (change : Change) (table tenant row mark : ℕ) (key : Key) → change ≡ Mark table tenant row mark → key ≡ conventional_key table tenant row → WriteFaults (finite.get old.places.rows key) (mark ∷ []) → Faults layout count change old
+  mark_faults change table tenant row mark key is named faults =
       subst (λ c. Faults layout count c old) (sym is)
-      (λ known area start changes are found g. inl (conventional_key table tenant row, refl, row_faults known area start changes (conventional_key table tenant row) mark g faults))
+      (λ known area start changes are found g. inl (key, ap (λ (k : Key). Some k) (sym named), row_faults known area start changes key mark g faults))
 
-  pub remove_faults : (change : Change) (table tenant base chunk row : ℕ) → change ≡ Remove table tenant base chunk row
-      → WriteFaults (finite.get old.places.rows (record { table = table; tenant = tenant; base = base; chunk = chunk; row = row })) (0 ∷ []) → Faults layout count change old
-  remove_faults change table tenant base chunk row is faults =
-      let key : Key = record { table = table; tenant = tenant; base = base; chunk = chunk; row = row } in
-      subst (λ c. Faults layout count c old) (sym is) (λ known area start changes are found g. inl (key, refl, row_faults known area start changes key 0 g faults))
+  pub remove_faults : (change : Change) (table tenant base chunk row : ℕ) (key : Key) → change ≡ Remove table tenant base chunk row → key ≡ record { table = table; tenant = tenant; base = base; chunk = chunk; row = row }
+      → WriteFaults (finite.get old.places.rows key) (0 ∷ []) → Faults layout count change old
+  remove_faults change table tenant base chunk row key is named faults =
+      subst (λ c. Faults layout count c old) (sym is) (λ known area start changes are found g. inl (key, ap (λ (k : Key). Some k) (sym named), row_faults known area start changes key 0 g faults))
 
   pub remove_body_faults : (change : Change) (table : ℕ) (body : List ℕ) → change ≡ RemoveCat table body → WriteFaults (finite.get old.places.bodies (table, body)) (0 ∷ []) → Faults layout count change old
   remove_body_faults change table body is faults =

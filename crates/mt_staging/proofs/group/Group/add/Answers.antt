@@ -2,8 +2,7 @@ use Rattle.std.proofs.Common.{◌≡◌, [], ◌∷◌}
 use Rattle.std.proofs.lemmas.Result.{on_ok_weaker}
 use Rattle.std.specs.FinMap as finite
 use Rattle.mt_rowfile.specs.Slots.{slot_bytes}
-use Rattle.mt_physplan.specs.declared.key.Key.{Key}
-use Rattle.mt_physplan.specs.Keys.{conventional_key, key_in}
+use Rattle.mt_physplan.specs.Keys.{key_in}
 use Rattle.mt_staging.specs.States.{group_of}
 use Rattle.mt_staging.proofs.Adds.{mark_faults, mark_kept, put_asks, put_body_asks, put_body_faults, put_body_kept, put_faults, put_kept, remove_asks, remove_body_asks, remove_body_faults, remove_body_kept, remove_faults, remove_kept}
 use Rattle.mt_staging.proofs.group.Group.add.Goals as goal
@@ -26,20 +25,29 @@ returns-in-Put-clause-disk c =
 
 pub returns-in-Mark-clause-ok : goal.returns-in-Mark-clause-ok
 returns-in-Mark-clause-ok c =
-    on_ok_weaker c.mark.result (λ w. mark_kept c.args.layout.now c.args.pages.now (group_of c.args.self.now) (group_of c.mark.new.self) c.requires.layout c.args.change.now c.in-Mark.table c.in-Mark.tenant c.in-Mark.row c.in-Mark.mark c.in-Mark.is c.requires.suits
-    ?) c.mark.ensures.ok
+    on_ok_weaker c.mark.result (mark_kept c.args.layout.now c.args.pages.now (group_of c.args.self.now) (group_of c.mark.new.self) c.requires.layout c.args.change.now c.in-Mark.table c.in-Mark.tenant c.in-Mark.row c.in-Mark.mark c.make_key.result
+    c.in-Mark.is c.requires.suits c.make_key.ensures.key) c.mark.ensures.ok
 
 pub returns-in-Mark-clause-disk : goal.returns-in-Mark-clause-disk
-returns-in-Mark-clause-disk c = ?
+returns-in-Mark-clause-disk c =
+    λ disk. mark_faults c.args.layout.now c.args.pages.now (group_of c.args.self.now) c.requires.layout c.args.change.now c.in-Mark.table c.in-Mark.tenant c.in-Mark.row c.in-Mark.mark c.make_key.result
+    c.in-Mark.is c.make_key.ensures.key (c.mark.ensures.disk disk)
 
 pub returns-in-Remove-clause-ok : goal.returns-in-Remove-clause-ok
-returns-in-Remove-clause-ok c = ?
+returns-in-Remove-clause-ok c =
+    on_ok_weaker c.remove.result (remove_kept c.args.layout.now c.args.pages.now (group_of c.args.self.now) (group_of c.remove.new.self) c.requires.layout c.args.change.now c.in-Remove.table c.in-Remove.tenant c.in-Remove.base c.in-Remove.chunk c.in-Remove.row
+    c.make_key-in-Remove.result c.in-Remove.is c.requires.suits c.make_key-in-Remove.ensures.key) c.remove.ensures.ok
 
 pub returns-in-Remove-clause-asked : goal.returns-in-Remove-clause-asked
-returns-in-Remove-clause-asked c = ?
+returns-in-Remove-clause-asked c =
+    let old = group_of c.args.self.now in
+    let key = c.make_key-in-Remove.result in
+    on_ok_weaker c.remove.result (remove_asks key.table (finite.get old.places.rows key) key old (group_of c.remove.new.self)) c.remove.ensures.ok
 
 pub returns-in-Remove-clause-disk : goal.returns-in-Remove-clause-disk
-returns-in-Remove-clause-disk c = ?
+returns-in-Remove-clause-disk c =
+    λ disk. remove_faults c.args.layout.now c.args.pages.now (group_of c.args.self.now) c.requires.layout c.args.change.now c.in-Remove.table c.in-Remove.tenant c.in-Remove.base c.in-Remove.chunk c.in-Remove.row
+    c.make_key-in-Remove.result c.in-Remove.is c.make_key-in-Remove.ensures.key (c.remove.ensures.disk disk)
 
 pub returns-in-PutCat-clause-ok : goal.returns-in-PutCat-clause-ok
 returns-in-PutCat-clause-ok c =
