@@ -1,2 +1,4 @@
+pub mod Held
 pub mod Named
 pub mod Places
+pub mod Walked

@@ -5,9 +5,13 @@
 //! Its memory grows with the changes, not with the tables.
 #![tactic(auto)]
 
-mod body_key;
-mod free_slots;
+mod body_places;
+mod named;
 mod places;
+mod row_places;
+mod table_list;
+mod table_places;
+mod walk;
 
 pub use places::Places;
 

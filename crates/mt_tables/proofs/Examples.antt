@@ -1,6 +1,6 @@
 -- Worked examples of the definitions: an empty disk, and one on which table 16, with a layout of one
 -- integer, has one row.
-use Rattle.std.proofs.Common.{◌≡◌, ◌==◌, if◌then◌else◌, [], ◌∷◌, Some, None, length, refl, pos}
+use Rattle.std.proofs.Common.{◌≡◌, ℕ, ◌==◌, if◌then◌else◌, List, [], ◌∷◌, Option, Some, None, length, take, refl, pos}
 use Rattle.std.specs.FinMap as finite
 use Rattle.mt_codec.specs.declared.field.FieldKind.TheVariants.{Int}
 use Rattle.mt_value.specs.declared.value.Value.TheVariants as value
@@ -8,8 +8,10 @@ use Rattle.mt_journal.specs.Layout.{Area}
 use Rattle.mt_rowfile.specs.declared.layout.Head.TheVariants.{Conventional}
 use Rattle.mt_physplan.specs.declared.key.Cell.{Cell}
 use Rattle.mt_physplan.specs.declared.key.Key.{Key}
+use Rattle.mt_physplan.specs.Keys.{key_cmp}
 use Rattle.mt_tables.specs.Pages.{bytes_at, page_count, places_below, table_at}
-use Rattle.mt_tables.specs.Rows.{KnownLayouts, catalogue_of, rows_of, sizes_of}
+use Rattle.mt_tables.specs.Plan.{PlacedSlot, free_in, placed, placed_in, sought}
+use Rattle.mt_tables.specs.Rows.{KnownLayouts, catalogue_of, row_in, rows_of, sizes_of}
 use Rattle.mt_tables.specs.Tables.{overwritten}
 
 -- table 16 has rows of one integer
@@ -59,6 +61,24 @@ cell = record { mark = 1; values = value.Int (pos 5) ∷ [] }
 
 rows-of-page : rows_of known one_row ≡ finite.insert finite.empty key cell
 rows-of-page = refl
+
+-- its page, as its bytes have it, has the slots of the disk
+abbrev page : List PlacedSlot
+page = placed_in (sizes_of known) 16 1 (bytes_at one_row 4096 4096)
+
+slots-of-bytes : placed (sizes_of known) one_row (places_below (sizes_of known) 2 one_row) ≡ page
+slots-of-bytes = refl
+
+-- its key gets its place where it is asked for, and is not entered where it is not
+key-sought : (index : finite.FinMap key_cmp (Option ℕ)) → sought (row_in known) page index ≡ (if finite.contains_key index key then finite.insert index key (Some 4104) else index)
+key-sought index = refl
+
+-- and all slots behind the first are free
+free-of-page : take 2 (free_in 16 page) ≡ 4126 ∷ 4148 ∷ []
+free-of-page = refl
+
+count-of-free : length (free_in 16 page) ≡ 184
+count-of-free = refl
 
 -- where the layout is not known there is none
 rows-unknown : rows_of (λ table. None) one_row ≡ finite.empty

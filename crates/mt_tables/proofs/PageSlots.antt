@@ -3,7 +3,7 @@ use Rattle.std.proofs.Common.{◌≡◌, ℕ, zero, suc, ◌+◌, ◌-◌, ◌*�
 use Rattle.std.specs.List.{cons_option}
 use Rattle.std.proofs.Math.Nat.{mul-suc}
 use Rattle.std.proofs.lemmas.List.{map-append, take_at}
-use Rattle.std.proofs.lemmas.List.Elements.{All-head, All-tail, filter-append, filter_map-append}
+use Rattle.std.proofs.lemmas.List.Elements.{All-head, All-map, All-tail, filter-append, filter_map-append}
 use Rattle.std.proofs.lemmas.List.Sums.{fold-append}
 use Rattle.std.specs.declared.cmp.Ordering.{Ordering}
 use Rattle.std.specs.FinMap as finite
@@ -54,6 +54,10 @@ pub walk_then : {S K V : Type 0} {R : K → K → Ordering} (read : S → Option
 walk_then read test xs ys found =
     ap (λ es. with_entries es found) (ap (passing test) (filter_map-append read xs ys) ∙ filter-append (λ e. test e.0) (filter_map read xs) (filter_map read ys))
     ∙ fold-append (λ tables e. finite.insert tables e.0 e.1) found (passing test (filter_map read xs)) (passing test (filter_map read ys))
+
+-- slots of a table
+pub slots_of_table : (table : ℕ) (slots : List (List ℕ)) → All (λ (slot : TableSlot). slot.0 ≡ table) (map (λ bytes. (table, bytes)) slots)
+slots_of_table table slots = All-map (λ (slot : TableSlot). slot.0 ≡ table) (λ bytes. (table, bytes)) slots (λ i d within. refl)
 
 -- what slots of a table say whose keys do not pass is not found
 pub walk_elsewhere : {K V : Type 0} {R : K → K → Ordering} (read : TableSlot → Option (K × V)) (table_of : K → ℕ) (test : K → Bool) (table : ℕ) → ((slot : TableSlot) (e : K × V) → read slot ≡ Some e → table_of e.0 ≡ slot.0)

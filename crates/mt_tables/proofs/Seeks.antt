@@ -20,15 +20,15 @@ abbrev IsOf : ℕ → PlacedSlot → Type 0
 IsOf table slot = (slot.0.table ≡ table) × (slot.1.0 ≡ table)
 
 -- the slots of a page are all of its table
-slots_of_table : (sizes : SlotSizes) (table page : ℕ) (numbers : List ℕ) (slots : List (List ℕ))
+places_of_table : (sizes : SlotSizes) (table page : ℕ) (numbers : List ℕ) (slots : List (List ℕ))
     → AllByRecursion (IsOf table) (zip (map (place_in sizes table page) numbers) (map (λ slot. (table, slot)) slots))
-slots_of_table sizes table page [] slots = tt
-slots_of_table sizes table page (number ∷ numbers) [] = tt
-slots_of_table sizes table page (number ∷ numbers) (slot ∷ slots) = ((refl, refl), slots_of_table sizes table page numbers slots)
+places_of_table sizes table page [] slots = tt
+places_of_table sizes table page (number ∷ numbers) [] = tt
+places_of_table sizes table page (number ∷ numbers) (slot ∷ slots) = ((refl, refl), places_of_table sizes table page numbers slots)
 
 both_of_table : (sizes : SlotSizes) (table page : ℕ) (bytes : List ℕ) → All (IsOf table) (placed_in sizes table page bytes)
 both_of_table sizes table page bytes =
-    All-from_recursion (IsOf table) (placed_in sizes table page bytes) (slots_of_table sizes table page (range_with_len 0 (sizes.count table)) (slots_in (sizes.width table) (sizes.count table) (drop 8 bytes)))
+    All-from_recursion (IsOf table) (placed_in sizes table page bytes) (places_of_table sizes table page (range_with_len 0 (sizes.count table)) (slots_in (sizes.width table) (sizes.count table) (drop 8 bytes)))
 
 pub placed_of_table : (sizes : SlotSizes) (table page : ℕ) (bytes : List ℕ) → All (λ slot. slot.1.0 ≡ table) (placed_in sizes table page bytes)
 placed_of_table sizes table page bytes = λ i d within. (both_of_table sizes table page bytes i d within).1

@@ -1,0 +1,12 @@
+-- What is found in the slots that are left is what is found in all of them.
+use Rattle.std.proofs.Common.{◌≡◌, ◌-◌, ◌*◌, ◌≤◌, length}
+use Rattle.mt_tables.specs.Plan.{sought}
+use Rattle.mt_tables.specs.Rows.{body_in}
+use Rattle.mt_places.specs.Walked.{slots_by, slots_from}
+use Rattle.mt_places.proofs.walk.look_for_bodies.Given as goal
+
+abbrev pub invariant-loop-number : goal.invariant-loop-number
+invariant-loop-number l = record {
+  room : l.width * (l.count - l.number) ≤ length l.rest;
+  found : sought body_in (slots_from l.width l.fn.table l.fn.page l.number (l.count - l.number) l.rest) l.bodies ≡ sought body_in (slots_by l.fn.layout l.fn.table l.fn.page l.fn.bytes) l.fn.bodies;
+}
