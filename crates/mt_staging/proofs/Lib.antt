@@ -3,6 +3,7 @@ pub mod Counting
 pub mod Effects
 pub mod Finding
 pub mod Groups
+pub mod Grows
 pub mod Keeps
 pub mod Keys
 pub mod Lists

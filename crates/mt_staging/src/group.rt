@@ -1,6 +1,7 @@
 ghost use Rattle.std.specs.Prelude.{◌≡◌, ℕ, List, ◌⊎◌, ◌*◌, ◌+◌, ◌-◌, ◌^◌, ◌<◌, ◌≤◌, [], ◌∷◌, ◌++◌, length, Option, Some, None, IfOk, OnOk, OnErr, IsErrOf, IsTrue, slice_index, slice_get};
 ghost use Rattle.std.specs.FinMap as finite;
 ghost use Rattle.std.proofs.Props.{props};
+ghost use Rattle.mt_journal.specs.Commits.{payload_size};
 ghost use Rattle.mt_journal.specs.Layout.{Area};
 ghost use Rattle.mt_rowfile.specs.Layouts.{IsLayout, IsOfRows, body_width, slots_per_page};
 ghost use Rattle.mt_rowfile.specs.declared.layout.Head.TheVariants.{Catalogue};
@@ -9,7 +10,7 @@ ghost use Rattle.mt_rowfile.specs.Slots.{FitsLayout, HasNumbers, slot_bytes};
 ghost use Rattle.mt_physplan.specs.Keys.{key_in};
 ghost use Rattle.mt_physplan.specs.declared.change.Change.{Change};
 ghost use Rattle.mt_places.specs.Named.{table_of};
-ghost use Rattle.mt_places.specs.Parts.{state_of};
+ghost use Rattle.mt_places.specs.Held.{state_of};
 ghost use Rattle.mt_tables.specs.Rows.{AreKnown, KnownLayouts, layout_of};
 ghost use Rattle.mt_staging.specs.Few.{AreFew};
 
@@ -112,6 +113,8 @@ impl Group {
         ensures ok { OnOk result ((known : KnownLayouts) (area : Area) (start : ℕ → ℕ) (changes : List Change) → AreKnown known → layout_of known (table_of change.now) ≡ Some layout.now
             → IsGroup known pages.now area start changes (group_of self.old) → IsGroup known pages.now area start (changes ++ change.now ∷ []) (group_of self.new)) }
         ensures few { OnOk result (length (group_of self.new).ranges ≤ length (group_of self.old).ranges + 3) }
+        ensures small { OnOk result (payload_size (group_of self.new).ranges ≤ payload_size (group_of self.old).ranges + 12324) }
+        ensures pages { OnOk result (pages.now + length (group_of self.old).added ≤ 2 ^ 28 → pages.now + length (group_of self.new).added ≤ 2 ^ 28) }
         ensures asked { OnOk result ((other : Change) → IsAsked other (group_of self.old).places → IsAsked other (group_of self.new).places) }
         ensures disk { IsErrOf result StageFault.Disk → (known : KnownLayouts) (area : Area) (start : ℕ → ℕ) (changes : List Change) → AreKnown known → layout_of known (table_of change.now) ≡ Some layout.now
             → IsGroup known pages.now area start changes (group_of self.old)

@@ -1,5 +1,5 @@
 use Rattle.std.proofs.Common.{refl}
-use Rattle.mt_places.specs.Parts.{state_of}
+use Rattle.mt_places.specs.Held.{state_of}
 use Rattle.mt_staging.specs.States.{group_of}
 use Rattle.mt_staging.proofs.Finding.{finds_page, none_taken, page_has_some, still_none, takes_first}
 use Rattle.mt_staging.proofs.group.Group.free_place.Goals as goal

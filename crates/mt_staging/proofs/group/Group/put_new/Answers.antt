@@ -1,6 +1,6 @@
 use Rattle.std.proofs.Common.{◌≡◌, ℕ, [], ◌∷◌, ◌++◌, refl, inl, inr}
 use Rattle.std.proofs.lemmas.Result.{err_from_is_err_and}
-use Rattle.mt_places.specs.Parts.{state_of}
+use Rattle.mt_places.specs.Held.{state_of}
 use Rattle.mt_staging.specs.Few.{AreFew}
 use Rattle.mt_staging.specs.States.{group_of}
 use Rattle.mt_staging.specs.Steps.{PutFaults, WritesFree}
