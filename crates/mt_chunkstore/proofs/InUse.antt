@@ -1,5 +1,5 @@
 -- The slots in use of a table, page by page.
-use Rattle.std.proofs.Common.{◌≡◌, ℕ, zero, suc, ◌+◌, ◌-◌, ◌*◌, ◌<◌, ◌≤◌, ◌&&◌, Bool, true, false, cond, not, nat_eq, List, [], ◌∷◌, ◌++◌, length, map, flat_map, filter, count_by, drop, slice_index, Option, None, Some, refl, sym, ap, subst, ◌∙◌, arith}
+use Rattle.std.proofs.Common.{◌≡◌, ℕ, zero, suc, ◌+◌, ◌-◌, ◌*◌, ◌<◌, ◌≤◌, ◌&&◌, Bool, true, false, cond, not, nat_eq, List, [], ◌∷◌, ◌++◌, length, map, flat_map, filter, count_by, drop, slice_index, Option, None, Some, refl, sym, ap, ◌∙◌, arith}
 use Rattle.std.specs.List.{range_with_len}
 use Rattle.std.proofs.Math.Nat.{div-le_self}
 use Rattle.std.proofs.lemmas.Bool.Decides.{nat_tests}
@@ -11,15 +11,13 @@ use Rattle.std.proofs.lemmas.List.Sums.{count_by-le-length, sum_by-append, sum_b
 use Rattle.std.proofs.lemmas.Grind.{flat_map-append}
 use Rattle.byteorder.specs.Endian.{little_number}
 use Rattle.mt_journal.specs.Layout.{Area, number_at}
-use Rattle.mt_journal.proofs.Numbers.{number_from}
 use Rattle.mt_rowfile.specs.Layouts.{slot_width, slots_per_page}
 use Rattle.mt_rowfile.specs.Pages.{free_slots, is_free, slots_in}
 use Rattle.mt_rowfile.specs.declared.layout.Layout.{Layout}
-use Rattle.mt_tables.specs.Pages.{AreSlotSizes, SlotPlace, SlotSizes, bytes_at, page_places, places_below, table_at}
+use Rattle.mt_tables.specs.Pages.{bytes_at, page_places, places_below, table_at}
 use Rattle.mt_tables.specs.Rows.{KnownLayouts, layout_of, sizes_of, width_by}
 use Rattle.mt_tables.specs.Rows as rows
 use Rattle.mt_tables.specs.Tables.{TableSlot, slot_at, slots_below}
-use Rattle.mt_tables.proofs.Bytes.{length-bytes_at}
 use Rattle.mt_tables.proofs.PageSlots.{page_slots}
 use Rattle.mt_tables.proofs.Sizes.{sizes_sound}
 use Rattle.mt_directory.specs.Directory.{directory_of, listed_table}

@@ -1,5 +1,5 @@
 -- What opening a store gives.
-use Rattle.std.proofs.Common.{◌≡◌, ℕ, ◌-◌, IsTrue, List, Option, None, refl, sym, ap, subst, ◌∙◌}
+use Rattle.std.proofs.Common.{◌≡◌, None, sym, ap, subst}
 use Rattle.mt_machine.specs.declared.machine.Area.TheVariants.{Pages}
 use Rattle.mt_machine.specs.Meaning.{Disk, Meaning}
 use Rattle.mt_machine.specs.Leaves.{Looks}
@@ -13,7 +13,6 @@ use Rattle.mt_directory.specs.Known.{known_in}
 use Rattle.mt_chunkstore.specs.declared.store.Store.{Store}
 use Rattle.mt_chunkstore.specs.Found.{Surveyed}
 use Rattle.mt_chunkstore.specs.Opened.{IsOpened}
-use Rattle.mt_chunkstore.specs.Standing.{Stands}
 use Rattle.mt_chunkstore.proofs.Kept.{counts_looked}
 
 -- no conventional table is known

@@ -1,5 +1,5 @@
 -- What opening a store answers.
-use Rattle.std.specs.Prelude.{◌≡◌, ℕ, IsTrue, Result, Ok, Err, Option, None, Some}
+use Rattle.std.specs.Prelude.{◌≡◌, ℕ, IsTrue, Result, Ok, Err, None}
 use Rattle.mt_machine.specs.declared.machine.Area.TheVariants.{Log, Pages}
 use Rattle.mt_machine.specs.Meaning.{Meaning, Rose}
 use Rattle.mt_journal.specs.declared.journal.RecoverFault.{RecoverFault}

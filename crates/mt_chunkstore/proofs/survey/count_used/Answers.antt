@@ -1,5 +1,5 @@
 -- Page by page, those of the table.
-use Rattle.std.proofs.Common.{◌≡◌, ◌+◌, ◌-◌, ◌<◌, ◌≤◌, ◌*◌, refl, sym, ◌∙◌, arith}
+use Rattle.std.proofs.Common.{◌<◌, sym, ◌∙◌, arith}
 use Rattle.mt_machine.specs.LeavesLaws.{looks_then}
 use Rattle.mt_chunkstore.proofs.Surveying.{counted_elsewhere, counted_here}
 use Rattle.mt_chunkstore.proofs.survey.count_used.Goals as goal

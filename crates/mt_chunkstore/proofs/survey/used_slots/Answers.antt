@@ -1,5 +1,5 @@
 -- No more slots are free than there are.
-use Rattle.std.proofs.Common.{◌≤◌, arith}
+use Rattle.std.proofs.Common.{arith}
 use Rattle.mt_chunkstore.proofs.InUse.{free_few, slots_few}
 use Rattle.mt_chunkstore.proofs.survey.used_slots.Goals as goal
 

@@ -1,5 +1,5 @@
 -- The store that was opened stands for the machine.
-use Rattle.std.proofs.Common.{◌≡◌, subst, sym}
+use Rattle.std.proofs.Common.{subst, sym}
 use Rattle.mt_directory.specs.Known.{known_in}
 use Rattle.mt_chunkstore.specs.Found.{Surveyed}
 use Rattle.mt_pages.specs.Standing.{Counts}

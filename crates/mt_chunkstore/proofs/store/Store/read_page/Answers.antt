@@ -1,5 +1,5 @@
 -- The store stands for the machine still.
-use Rattle.std.proofs.Common.{◌≡◌, refl}
+use Rattle.std.proofs.Common.{refl}
 use Rattle.mt_chunkstore.proofs.Kept.{stands_looked}
 use Rattle.mt_chunkstore.proofs.store.Store.read_page.Goals as goal
 

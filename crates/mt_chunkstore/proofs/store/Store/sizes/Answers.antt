@@ -1,5 +1,5 @@
 -- A table that passes is one size more.
-use Rattle.std.proofs.Common.{◌≡◌, ◌-◌, ◌∷◌, ◌++◌, [], true, false, cond, map, filter, sym, ap, ◌∙◌, arith}
+use Rattle.std.proofs.Common.{◌≡◌, ◌-◌, ◌∷◌, ◌++◌, [], map, filter, sym, ap, ◌∙◌, arith}
 use Rattle.std.specs.List.{range_with_len}
 use Rattle.mt_chunkstore.specs.Standing.{has_size, size_in}
 use Rattle.mt_chunkstore.proofs.InUse.{picked_no, picked_yes}

@@ -1,5 +1,5 @@
 -- Page by page.
-use Rattle.std.proofs.Common.{◌≡◌, refl, ◌∙◌}
+use Rattle.std.proofs.Common.{refl, ◌∙◌}
 use Rattle.mt_machine.specs.LeavesLaws.{looks_itself, looks_then}
 use Rattle.mt_directory.specs.Known.{known_in}
 use Rattle.mt_chunkstore.proofs.Surveying.{surveyed_more, surveyed_none}
