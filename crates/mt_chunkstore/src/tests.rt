@@ -2,7 +2,7 @@ ghost use Rattle.std.specs.Prelude.{◌≡◌, IfOk};
 ghost use Rattle.mt_rowfile.specs.declared.layout.Head.TheVariants.{Conventional};
 ghost use Rattle.mt_rowfile.specs.Layouts.{IsLayout};
 
-use crate::{Store, StoreFault, TableSize};
+use crate::{Sizes, Store, StoreFault, TableSize};
 use mt_codec::FieldKind;
 use mt_list::List;
 use mt_machine::{Area, Bytes, CallKind, FailList, Failed, Machine, MemMachine, SteadyMachine};
@@ -80,27 +80,40 @@ fn one_integer(alloc: Global) -> Result<Layout, AllocError>
     })
 }
 
-/// The read behind those of `load` is that of the page of table 16.
+/// What stands in the way of a layout of table 16 where the pages are laid, and the sizes then.
+fn sizes_with_layout<M: Machine>(
+    m: &mut M,
+    alloc: Global,
+) -> Result<(Option<PhysFault>, Sizes), Fail> {
+    lay_pages(m)?;
+    let mut store = Store::load(m, alloc)?;
+    let added = store.add_layout(m, 16, one_integer(alloc)?);
+    Ok((added.err(), store.sizes(alloc)?))
+}
+
 #[test]
 fn a_layout_counts_the_slots_of_its_table(rt: HostRuntime) -> Result<(), Fail> {
-    let alloc = rt.alloc();
-    let mut fails = FailList::new(alloc);
-    fails.push(CallKind::Read, 5)?;
-    let mut machine = MemMachine::new(alloc, fails);
-    lay_pages(&mut machine)?;
-    let mut store = Store::load(&mut machine, alloc)?;
-    let Err(fault) = store.add_layout(&mut machine, 16, one_integer(alloc)?) else {
-        return Err("no fault".into());
-    };
-    assert_eq!(rt; fault, PhysFault::Disk);
-    assert_eq!(rt; store.sizes(alloc)?.as_slice(), [CHUNKS].as_slice());
-    store.add_layout(&mut machine, 16, one_integer(alloc)?)?;
+    let mut machine = SteadyMachine::new(rt.alloc());
+    let (fault, sizes) = sizes_with_layout(&mut machine, rt.alloc())?;
     let rows = TableSize {
         table: 16,
         pages: 1,
         used: 2,
     };
-    assert_eq!(rt; store.sizes(alloc)?.as_slice(), [CHUNKS, rows].as_slice());
+    assert_eq!(rt; fault, None);
+    assert_eq!(rt; sizes.as_slice(), [CHUNKS, rows].as_slice());
+    Ok(())
+}
+
+/// The read behind those of `load` is that of the page of table 16.
+#[test]
+fn a_layout_that_fails_is_not_known(rt: HostRuntime) -> Result<(), Fail> {
+    let mut fails = FailList::new(rt.alloc());
+    fails.push(CallKind::Read, 5)?;
+    let mut machine = MemMachine::new(rt.alloc(), fails);
+    let (fault, sizes) = sizes_with_layout(&mut machine, rt.alloc())?;
+    assert_eq!(rt; fault, Some(PhysFault::Disk));
+    assert_eq!(rt; sizes.as_slice(), [CHUNKS].as_slice());
     Ok(())
 }
 
