@@ -1,9 +1,10 @@
 -- A group that was committed, and that the store took over.
-use Rattle.std.proofs.Common.{◌≡◌, ◌⊎◌, inl, inr, ℕ, zero, suc, ◌+◌, ◌-◌, ◌*◌, ◌<◌, ◌≤◌, ◌^◌, ◌&&◌, min, nat_eq, IsTrue, Bool, true, false, List, [], ◌∷◌, ◌++◌, length, map, slice_index, refl, sym, ap, subst, ◌∙◌, arith}
-use Rattle.std.specs.Prelude.{All, Option, None, Some, count_by, not}
+use Rattle.std.proofs.Common.{◌≡◌, ◌⊎◌, inl, inr, ℕ, zero, suc, ◌+◌, ◌-◌, ◌*◌, ◌<◌, ◌≤◌, ◌^◌, ◌&&◌, min, nat_eq, IsTrue, Bool, true, false, List, [], ◌∷◌, ◌++◌, length, map, take, slice_index, append_assoc, refl, sym, ap, subst, ◌∙◌, arith}
+use Rattle.std.specs.Prelude.{All, slice_get, Option, None, Some, count_by, not}
 use Rattle.std.specs.List.{range_with_len}
 use Rattle.std.proofs.Math.Nat.{min-eq_left, min-le_right, mul-le-mul}
-use Rattle.std.proofs.lemmas.List.{length-append, length-map}
+use Rattle.std.proofs.lemmas.List.{length-append, length-map, map-append, take_more}
+use Rattle.std.proofs.lemmas.Option.{get_or_from_slice_get}
 use Rattle.std.proofs.lemmas.List.FromFn.{length-range_with_len}
 use Rattle.std.proofs.lemmas.List.Sums.{count_by-le-length}
 use Rattle.mt_machine.specs.declared.machine.Area.TheVariants.{Pages}
@@ -37,7 +38,7 @@ use Rattle.mt_chunkstore.proofs.Chosen.{all_made, group_changed, group_listed, g
 pub record IsTaken (group : GroupState) (old new : Store) : Type 0 where
   pub pages : new.pages ≡ old.pages + length group.added
   pub tables : new.directory.tables ≡ old.directory.tables ++ map listed_table group.added
-  pub used : (table : ℕ) → slice_index new.used table ≡ used_after (slice_index old.used table) (group.taken table) (group.freed table)
+  pub used : (table : ℕ) → table < 32 → slice_index new.used table ≡ used_after (slice_index old.used table) (group.taken table) (group.freed table)
   pub layouts : new.layouts ≡ old.layouts
   pub scans : new.scans ≡ old.scans
   pub some : 1 ≤ old.pages
@@ -56,6 +57,20 @@ listed_all (table ∷ tables) few =
     let first : listed_table table ≡ table = (let h = few 0 (omega arith) in grind (arith, h)) in
     let rest = listed_all tables (λ i within. few (suc i) (omega arith)) in
     λ i. first i ∷ rest i
+
+slice_get_within : (xs : List ℕ) (j x : ℕ) → slice_get xs j ≡ Some x → j < length xs
+slice_get_within [] j x is = cc
+slice_get_within (y ∷ xs) zero x is = omega arith
+slice_get_within (y ∷ xs) (suc j) x is = let h = slice_get_within xs j x is in omega arith
+
+-- one page more is listed
+pub listed_more : (tables new before added : List ℕ) (i table : ℕ) → slice_get added i ≡ Some table → new ≡ tables ++ listed_table table ∷ [] → tables ≡ before ++ map listed_table (take i added)
+    → new ≡ before ++ map listed_table (take (i + 1) added)
+listed_more tables new before added i table is pushed so_far =
+    let within : i < length added = slice_get_within added i table is in
+    let more : take (i + 1) added ≡ take i added ++ table ∷ [] = take_more added i 0 within ∙ ap (λ t. take i added ++ t ∷ []) (get_or_from_slice_get added i table 0 is) in
+    pushed ∙ ap (λ ts. ts ++ listed_table table ∷ []) so_far ∙ append_assoc before (map listed_table (take i added)) (listed_table table ∷ [])
+    ∙ ap (λ ts. before ++ ts) (sym (ap (map listed_table) more ∙ map-append listed_table (take i added) (table ∷ [])))
 
 -- a page of a table has few slots
 per_page : (known : KnownLayouts) (table : ℕ) → (sizes_of known).count table ≤ 4088
@@ -112,11 +127,11 @@ module _ (changes : List Change) (group : GroupState) (old_store new_store : Sto
         ∙ sym (group_listed (known_in old_store.layouts) old_store.pages (old.content Pages) changes group (group_is tells) taken.some)
         ∙ ap (λ area. directory_of (old_store.pages + length group.added) area) (sym (written tells))
         ∙ ap (λ n. directory_of n (new.content Pages)) (sym taken.pages);
-    used = λ tells table.
+    used = λ tells table low.
         let is = group_is tells in
         let known = known_in old_store.layouts in
         let area = old.content Pages in
-        let was = before.used (told tells) table in
+        let was = before.used (told tells) table low in
         let now : used_in (sizes_of (known_in new_store.layouts)) table new_store.pages (new.content Pages) ≡ used_in (sizes_of known) table (old_store.pages + length group.added) (with_ranges group.ranges area) =
         ap (λ layouts. used_in (sizes_of (known_in layouts)) table new_store.pages (new.content Pages)) taken.layouts
         ∙ ap (λ n. used_in (sizes_of known) table n (new.content Pages)) taken.pages
@@ -131,7 +146,7 @@ module _ (changes : List Change) (group : GroupState) (old_store new_store : Sto
         let filled = is.filled table in
         let enough : slice_index old_store.used table + group.taken table ≤ 2 ^ 64 - 1 = omega (arith, was, slots, used, free, start, few, filled) in
         let m : min (slice_index old_store.used table + group.taken table) (2 ^ 64 - 1) ≡ slice_index old_store.used table + group.taken table = min-eq_left enough in
-        taken.used table ∙ omega (arith, m, was, both) ∙ sym now;
+        taken.used table low ∙ omega (arith, m, was, both) ∙ sym now;
   }
 
   -- the changes were made

@@ -34,7 +34,7 @@ stands_still store old new stands looks = record {
   sized = stands.sized;
   known = stands.known;
   directory = λ tells. stands.directory (looks.leaves.told tells) ∙ ap (λ (d : Disk). directory_of store.pages (d Pages)) (sym (looks.content tells));
-  used = λ tells table. stands.used (looks.leaves.told tells) table ∙ ap (λ (d : Disk). used_in (sizes_of (known_in store.layouts)) table store.pages (d Pages)) (sym (looks.content tells));
+  used = λ tells table few. stands.used (looks.leaves.told tells) table few ∙ ap (λ (d : Disk). used_in (sizes_of (known_in store.layouts)) table store.pages (d Pages)) (sym (looks.content tells));
 }
 
 -- and so does one that counts scans
@@ -47,7 +47,7 @@ stands_looked store after old new same before looks =
       sized = rw (same.directory, same.pages) stands.sized;
       known = rw same.layouts stands.known;
       directory = λ tells. rw (same.directory, same.pages) (stands.directory tells);
-      used = λ tells table. rw (same.used, same.layouts, same.pages) (stands.used tells table);
+      used = λ tells table few. rw (same.used, same.layouts, same.pages) (stands.used tells table few);
     }
 
 -- the layouts with one of a conventional table more
@@ -79,8 +79,8 @@ stands_with store old new table layout layouts counted before looks size from up
       sized = stands.sized;
       known = subst AreKnown (sym is) (known_with known table layout stands.known head sound);
       directory = stands.directory;
-      used = λ tells t. subst (λ (ls : KnownLayouts). slice_index (slice_set store.used table counted) t ≡ used_in (sizes_of ls) t store.pages (new.content Pages)) (sym is)
-          (by t (nat_eq t table) refl (stands.used tells t) (counts tells));
+      used = λ tells t few. subst (λ (ls : KnownLayouts). slice_index (slice_set store.used table counted) t ≡ used_in (sizes_of ls) t store.pages (new.content Pages)) (sym is)
+          (by t (nat_eq t table) refl (stands.used tells t few) (counts tells));
     }
   where
     by : (t : ℕ) (b : Bool) → nat_eq t table ≡ b → slice_index store.used t ≡ used_in (sizes_of (known_in store.layouts)) t store.pages (new.content Pages)

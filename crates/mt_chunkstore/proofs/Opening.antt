@@ -31,7 +31,7 @@ opened store old first second new start recovered one counts none two found =
         sized = found.sized;
         known = none_known (known_in store.layouts) none;
         directory = found.listed;
-        used = found.counted;
+        used = λ tells table few. found.counted tells table;
       };
       replayed = λ tells. subst (λ (d : Disk). Replays old.content (d Pages)) (sym (looks.content tells)) (recovered.pages (looks.leaves.told tells));
       layouts = λ table. ap (λ (known : KnownLayouts). known table) none;

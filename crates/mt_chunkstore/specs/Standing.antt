@@ -1,5 +1,5 @@
 -- How a store stands for a machine.
-use Rattle.std.specs.Prelude.{◌≡◌, ℕ, ◌+◌, ◌-◌, ◌^◌, min, ◌&&◌, Bool, IsTrue, nat_eq, nat_le, not, is_some, List, length, map, filter, count_by, slice_index}
+use Rattle.std.specs.Prelude.{◌≡◌, ℕ, ◌+◌, ◌-◌, ◌^◌, ◌<◌, min, ◌&&◌, Bool, IsTrue, nat_eq, nat_le, not, is_some, List, length, map, filter, count_by, slice_index}
 use Rattle.std.specs.List.{range_with_len}
 use Rattle.mt_machine.specs.declared.machine.Area.TheVariants.{Pages}
 use Rattle.mt_machine.specs.Meaning.{Meaning}
@@ -27,7 +27,7 @@ pub record Stands (store : Store) (machine : Meaning) : Type 0 where
   pub sized : length store.directory.tables ≡ store.pages - 1
   pub known : AreKnown (known_in store.layouts)
   pub directory : IsTrue machine.tells → store.directory.tables ≡ directory_of store.pages (machine.content Pages)
-  pub used : IsTrue machine.tells → (table : ℕ) → slice_index store.used table ≡ used_in (sizes_of (known_in store.layouts)) table store.pages (machine.content Pages)
+  pub used : IsTrue machine.tells → (table : ℕ) → table < 32 → slice_index store.used table ≡ used_in (sizes_of (known_in store.layouts)) table store.pages (machine.content Pages)
 
 -- a store is as it was but for its counts of scans
 pub record SameStore (old new : Store) : Type 0 where

@@ -1,4 +1,4 @@
-ghost use Rattle.std.specs.Prelude.{◌≡◌, ◌≤◌, ◌+◌, ◌^◌, ◌++◌, ℕ, List, IsTrue, OnOk, length, map, slice_index};
+ghost use Rattle.std.specs.Prelude.{◌≡◌, ◌<◌, ◌≤◌, ◌+◌, ◌^◌, ◌++◌, ℕ, List, IsTrue, OnOk, length, map, slice_index};
 ghost use Rattle.mt_machine.specs.Calls.{HasCause};
 ghost use Rattle.mt_machine.specs.Leaves.{Leaves};
 ghost use Rattle.mt_machine.specs.declared.machine.Area.TheVariants as areas;
@@ -49,11 +49,13 @@ impl Store {
         requires room { length (group_of group.now).added ≤ self.old.directory.room }
         ensures pages { self.new.pages ≡ self.old.pages + length (group_of group.now).added }
         ensures tables { self.new.directory.tables ≡ self.old.directory.tables ++ map listed_table (group_of group.now).added }
-        ensures used { (table : ℕ) → slice_index self.new.used table ≡ used_after (slice_index self.old.used table) ((group_of group.now).taken table) ((group_of group.now).freed table) }
+        ensures used { (table : ℕ) → table < 32 → slice_index self.new.used table ≡ used_after (slice_index self.old.used table) ((group_of group.now).taken table) ((group_of group.now).freed table) }
         ensures journal { self.new.journal ≡ self.old.journal }
         ensures layouts { self.new.layouts ≡ self.old.layouts }
         ensures scans { self.new.scans ≡ self.old.scans }
+        ensures some { 1 ≤ self.old.pages }
     {
+        prove!(self.pages.count() >= 1);
         self.pages.committed(group.added_count() as u64);
         list_pages(&mut self.directory, group);
         count_slots(&mut self.used, group);
@@ -88,7 +90,7 @@ fn list_pages(directory: &mut Directory, group: &Group)
 
 /// Counts the slots that a group took and freed.
 fn count_slots(used: &mut [u64; TABLES], group: &Group)
-    ensures { (table : ℕ) → slice_index used.new table ≡ used_after (slice_index used.old table) ((group_of group.now).taken table) ((group_of group.now).freed table) }
+    ensures { (table : ℕ) → table < 32 → slice_index used.new table ≡ used_after (slice_index used.old table) ((group_of group.now).taken table) ((group_of group.now).freed table) }
 {
     for table in 0..TABLES {
         used[table] = used[table]
