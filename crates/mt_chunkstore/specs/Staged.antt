@@ -7,8 +7,8 @@ use Rattle.mt_physplan.specs.declared.change.Change.{Change}
 use Rattle.mt_tables.specs.Rows.{ArePages, KnownLayouts}
 use Rattle.mt_directory.specs.Known.{known_in}
 use Rattle.mt_staging.specs.Group.{GroupState, IsGroup, PutsReadable}
-use Rattle.mt_staging.specs.declared.group.StageFault.{StageFault}
-use Rattle.mt_staging.specs.declared.group.StageFault.TheVariants as faults
+use Rattle.mt_staging.specs.declared.fault.StageFault.{StageFault}
+use Rattle.mt_staging.specs.declared.fault.StageFault.TheVariants as faults
 use Rattle.mt_chunkstore.specs.declared.store.Store.{Store}
 use Rattle.mt_chunkstore.specs.Changes.{AreChanged, MayChange, all_needed, free_at_start}
 use Rattle.mt_chunkstore.specs.Standing.{Stands}

@@ -11,8 +11,9 @@ use Rattle.mt_tables.specs.Rows.{KnownLayouts, body_in, row_in, sizes_of}
 use Rattle.mt_directory.specs.Directory.{directory_of}
 use Rattle.mt_places.specs.Places.{IsBegun, PlacesState}
 use Rattle.mt_staging.specs.Group.{GroupState, IsAsked, IsGroup}
-use Rattle.mt_staging.specs.declared.group.StageFault.{StageFault}
-use Rattle.mt_staging.specs.declared.group.StageFault.TheVariants as faults
+use Rattle.mt_staging.specs.States.{IsEmptyGroup}
+use Rattle.mt_staging.specs.declared.fault.StageFault.{StageFault}
+use Rattle.mt_staging.specs.declared.fault.StageFault.TheVariants as faults
 
 -- the pages below a number were looked at, but for those of tables that no change names
 pub record IsWalked (known : KnownLayouts) (area : Area) (n : ℕ) (begun places : PlacesState) : Type 0 where
@@ -37,8 +38,7 @@ LookCause (Err faults.Memory) before now = now ≡ before
 
 -- a group of no ranges over places is one of no changes
 abbrev pub Begins : KnownLayouts → ℕ → Area → (ℕ → ℕ) → PlacesState → Type 0
-Begins known count area start places = (fresh : GroupState) → fresh.places ≡ places → fresh.ranges ≡ [] → fresh.added ≡ []
-    → ((table : ℕ) → fresh.taken table ≡ 0) → ((table : ℕ) → fresh.freed table ≡ 0) → IsGroup known count area start [] fresh
+Begins known count area start places = (fresh : GroupState) → IsEmptyGroup places fresh → IsGroup known count area start [] fresh
 
 -- The group of changes, wherever it begins as one of no changes.
 pub record IsChosen (known : KnownLayouts) (changes : List Change) (count : ℕ) (places : PlacesState) (group : GroupState) : Type 0 where
