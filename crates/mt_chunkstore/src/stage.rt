@@ -2,7 +2,7 @@ ghost use Rattle.std.specs.Prelude.{◌≡◌, ◌≤◌, ◌-◌, ◌^◌, ⊥,
 ghost use Rattle.mt_machine.specs.Leaves.{Looks};
 ghost use Rattle.mt_journal.specs.Layout.{Area};
 ghost use Rattle.mt_directory.specs.Known.{known_in};
-ghost use Rattle.mt_places.specs.Parts.{state_of};
+ghost use Rattle.mt_places.specs.Held.{state_of};
 ghost use Rattle.mt_places.specs.Named as named;
 ghost use Rattle.mt_staging.specs.Group.{IsAsked};
 ghost use Rattle.mt_staging.specs.States.{group_of};
