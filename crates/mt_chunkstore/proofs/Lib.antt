@@ -1,4 +1,5 @@
 pub mod AllPages
+pub mod Asked
 pub mod Begun
 pub mod Chosen
 pub mod InUse
@@ -7,6 +8,7 @@ pub mod Looking
 pub mod Needed
 pub mod OnePage
 pub mod Opening
+pub mod Refused
 pub mod Slots
 pub mod Surveying
 pub mod Walked

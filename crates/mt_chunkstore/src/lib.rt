@@ -5,12 +5,14 @@
 mod lent;
 mod page_scan;
 mod sizes;
+mod stage;
 mod store;
 mod survey;
 mod table_scan;
 
 pub use lent::Lent;
 pub use sizes::{Sizes, TableSize};
+pub use stage::Staged;
 pub use store::{Store, StoreFault};
 
 #[cfg(test)]
