@@ -4,8 +4,8 @@ use Rattle.std.specs.Cmp.{nat_eq_equiv}
 use Rattle.std.proofs.lemmas.Bool.{eqb-true}
 use Rattle.mt_rowfile.specs.declared.layout.Layout.{Layout}
 use Rattle.mt_rowfile.specs.Layouts.{slot_width, slots_per_page}
-use Rattle.mt_tables.specs.Plan.{free_in, placed_in, sought}
-use Rattle.mt_tables.specs.Rows.{KnownLayouts, body_in, layout_of, row_in, sizes_of}
+use Rattle.mt_tables.specs.Plan.{free_in, sought}
+use Rattle.mt_tables.specs.Rows.{KnownLayouts, body_in, layout_of, row_in}
 use Rattle.mt_places.specs.Held.{Held, TableState, offered, state_of, table_in, trimmed, with_table}
 use Rattle.mt_places.specs.Places.{IsLooked}
 use Rattle.mt_places.specs.Walked.{free_by, row_with, slots_by}

@@ -1,5 +1,5 @@
 -- The slots of a page, one after another.
-use Rattle.std.proofs.Common.{◌≡◌, ◌≢◌, ℕ, zero, suc, ◌+◌, ◌-◌, ◌*◌, ◌/◌, ◌<◌, ◌≤◌, ◌&&◌, Bool, true, false, cond, nat_eq, nat_le, List, [], ◌∷◌, ◌++◌, map, filter, take, drop, length, slice_index, Option, None, Some, refl, sym, ap, ◌∙◌, arith}
+use Rattle.std.proofs.Common.{◌≡◌, ◌≢◌, ℕ, zero, suc, ◌+◌, ◌-◌, ◌*◌, ◌/◌, ◌<◌, ◌≤◌, ◌&&◌, Bool, true, false, cond, nat_eq, nat_le, List, [], ◌∷◌, ◌++◌, map, filter, take, drop, slice_index, Option, None, Some, refl, sym, ap, ◌∙◌, arith}
 use Rattle.std.proofs.Math.Nat.{mul-div-le, mul-le-mul_left, sub-zero}
 use Rattle.std.proofs.lemmas.Bool.{eq-eqb, ne_eqb}
 use Rattle.std.proofs.lemmas.Bool.Decides.{nat_tests}
@@ -18,7 +18,7 @@ use Rattle.mt_tables.specs.Plan.{PlacedSlot, free_in, placed_in, sought, with_pl
 use Rattle.mt_tables.specs.Rows.{KnownLayouts, body_in, catalogue_layout, is_of_catalogue, layout_of, row_in, sizes_of}
 use Rattle.mt_tables.specs.Rows as rows
 use Rattle.mt_tables.specs.Tables.{TableSlot}
-use Rattle.mt_places.specs.Walked.{free_by, free_from, positions_by, row_with, slots_by, slots_from}
+use Rattle.mt_places.specs.Walked.{free_by, free_from, row_with, slots_by, slots_from}
 
 -- a slot of a page begins within it
 pub within_page : (width count number : ℕ) → count ≡ 4088 / width → number < count → width * number ≤ 4096

@@ -1,4 +1,4 @@
-ghost use Rattle.std.specs.Prelude.{◌≡◌, ◌<◌, ◌≤◌, ℕ, length, IfOk, OnOk, filter_map};
+ghost use Rattle.std.specs.Prelude.{◌≡◌, ◌<◌, ℕ, length, IfOk, OnOk, filter_map};
 ghost use Rattle.std.specs.FinMap as finite;
 ghost use Rattle.mt_places.specs.Held.{all_bodies, asking, asking_one, placing};
 ghost use Rattle.mt_places.specs.Named.{body_key};
@@ -15,7 +15,7 @@ pub(crate) struct TableBodies {
 }
 
 impl Model for TableBodies {
-    ghost use Rattle.std.specs.Prelude.{ℕ, List, Option, map};
+    ghost use Rattle.std.specs.Prelude.{ℕ, Option, map};
     ghost use Rattle.std.specs.Ordering.{nat_cmp};
     ghost use Rattle.std.specs.Cmp.Lexicographic.{slice_cmp};
     ghost use Rattle.std.specs.Coded.{coded_ℕ, coded_list, coded_option};
@@ -73,7 +73,7 @@ pub(crate) struct BodyPlaces {
 }
 
 impl Model for BodyPlaces {
-    ghost use Rattle.std.specs.Prelude.{ℕ, List, Option};
+    ghost use Rattle.std.specs.Prelude.{ℕ, Option};
     ghost use Rattle.std.specs.Coded.{coded_ℕ, coded×, coded_list, coded_option};
     ghost use Rattle.std.specs.FinMap as finite;
     ghost use Rattle.mt_physplan.specs.Applied.{body_cmp};

@@ -89,7 +89,7 @@ group_of_parts known count area start changes group s n = record {
 }
 
 -- how long the payload is with one range more
-payload_more : (ranges : List Range) (range : Range) → payload_size (ranges ++ range ∷ []) ≡ payload_size ranges + (12 + length range.bytes)
+pub payload_more : (ranges : List Range) (range : Range) → payload_size (ranges ++ range ∷ []) ≡ payload_size ranges + (12 + length range.bytes)
 payload_more ranges range = let e = sum_by-append range_size ranges (range ∷ []) in omega (arith, e)
 
 -- one range more, and no page

@@ -18,9 +18,9 @@ use Rattle.mt_physplan.specs.Applied.{applied, body_cmp, catalogue_applied, with
 use Rattle.mt_physplan.specs.Keys.{cell_of, conventional_key, key_cmp, key_in}
 use Rattle.mt_physplan.proofs.Keys.{keys_total}
 use Rattle.mt_tables.specs.Pages.{SlotPlace, bytes_at}
-use Rattle.mt_tables.specs.Plan.{without_first}
+use Rattle.mt_tables.specs.Plan.{AreFree, Says, without_first}
 use Rattle.mt_tables.specs.Rows.{IsReadableSlot, KnownLayouts, body_in, catalogue_of, is_of_catalogue, layout_of, row_in, rows_of, sizes_of}
-use Rattle.mt_tables.specs.Tables.{overwritten}
+use Rattle.mt_tables.specs.Tables.{TableSlot, overwritten}
 use Rattle.mt_tables.proofs.Bodies.{bodies_total}
 use Rattle.mt_tables.proofs.Bytes.{length-bytes_at, overwrites_all}
 use Rattle.mt_tables.proofs.Readings as readings
@@ -31,6 +31,7 @@ use Rattle.mt_staging.proofs.Effects.{body_readable, body_small, catalogue_width
 use Rattle.mt_staging.proofs.Groups.{AreNumbers, IsWithPage, IsWithin, filled_taken, group_of_parts, less_taken, numbers_of, numbers_with_page, numbers_within, stands_of}
 use Rattle.mt_staging.proofs.Keys.{plan_found, plan_lacks}
 use Rattle.mt_staging.proofs.Lists.{once}
+use Rattle.mt_staging.proofs.Low.{place_low}
 use Rattle.mt_staging.proofs.OneSlot.{body_removed, body_rewritten, body_taken, row_removed, row_rewritten, row_taken}
 use Rattle.mt_staging.proofs.Pairs.{said_there}
 use Rattle.mt_staging.proofs.Paging.{page_stands}
@@ -177,6 +178,31 @@ module _ (known : KnownLayouts) (count : ℕ) (area : Area) (start : ℕ → ℕ
         taken = λ t i. taken i t;
       })
 
+  -- what a group names lies in the pages
+  says_within : {K V : Type 0} (read : TableSlot → Option (K × V)) (many : ℕ) (at : Area) (place : SlotPlace) (entry : Option (K × V)) → many ≤ 2 ^ 28 → Says (sizes_of known) read many at place entry → place.position + width place.table ≤ 2 ^ 40
+  says_within read many at place entry few says = place_low (sizes_of known) (sizes_sound known) read many at place entry few says
+
+  pub row_low : (key : Key) (p : ℕ) → finite.get old.places.rows key ≡ Some (Some p) → p + width key.table ≤ 2 ^ 40
+  row_low key p is = let held = s.rows.held key p is in says_within (row_in known) total before (record { table = key.table; position = p }) (Some (key, held.0)) n.pages_few held.1
+
+  pub body_low : (key : ℕ × List ℕ) (p : ℕ) → finite.get old.places.bodies key ≡ Some (Some p) → p + width key.0 ≤ 2 ^ 40
+  body_low key p is = let held = s.bodies.held key p is in says_within body_in total before (record { table = key.0; position = p }) (Some (key, held.0)) n.pages_few held.1
+
+  pub free_low : (layout : Layout) (table p : ℕ) (between : GroupState) → layout_of known table ≡ Some layout → table ≤ 31 → FindsFree layout table count p old between → p + width table ≤ 2 ^ 40
+  free_low layout table p between found small (inl first) =
+      let all : AreFree (sizes_of known) (row_in known) total before table (p ∷ first.behind) = subst (AreFree (sizes_of known) (row_in known) total before table) first.first (s.rows.are_free table) in
+      says_within (row_in known) total before (record { table = table; position = p }) None n.pages_few all.0
+  free_low layout table p between found small (inr (mid, made, first)) =
+      let page : GroupState = page_made layout table count old in
+      let then = page_then layout table found made.some made.few small in
+      let there : page.places.free table ≡ p ∷ first.behind = ap (λ (h : GroupState). h.places.free table) (sym made.page) ∙ first.first in
+      let many : ℕ = count + length (old.added ++ table ∷ []) in
+      let at : Area = with_ranges page.ranges area in
+      let all : AreFree (sizes_of known) (row_in known) many at table (p ∷ first.behind) = subst (AreFree (sizes_of known) (row_in known) many at table) there (then.rows.are_free table) in
+      let more = length-append old.added (table ∷ []) in
+      let room = made.few in
+      says_within (row_in known) many at (record { table = table; position = p }) None (omega (arith, more, room)) all.0
+
   module _ (layout : Layout) (table : ℕ) (slot : SlotRow) (found : layout_of known table ≡ Some layout) (rows : IsOfRows layout.head) (room : 1 ≤ slots_per_page layout) (kinds : AreKinds layout.kinds) (fits : FitsLayout layout slot) (numbers : HasNumbers slot) where
     abbrev key : Key
     key = key_in table slot
@@ -184,7 +210,7 @@ module _ (known : KnownLayouts) (count : ℕ) (area : Area) (start : ℕ → ℕ
     abbrev change : Change
     change = Put table slot
 
-    slot_long : length (slot_bytes layout slot) ≡ width table
+    pub slot_long : length (slot_bytes layout slot) ≡ width table
     slot_long = (is_slot layout slot rows kinds fits numbers).size ∙ sym (width_is known table layout found)
 
     slot_short : length (slot_bytes layout slot) ≤ 4096
@@ -215,8 +241,8 @@ module _ (known : KnownLayouts) (count : ℕ) (area : Area) (start : ℕ → ℕ
         row_taken known count (count + length h.added) area changes change h sh key layout found rows p behind (cell_of slot) (slot_bytes layout slot) first nowhere (let l = slot_long in omega (arith, l)) (slot_says (with_ranges h.ranges area) p)
         (refl, refl, λ t. one_new (applied changes (rows_of known area)) key (nat_eq table t) none) (slot_reads (with_ranges h.ranges area) p)
 
-    put_free : 1 ≤ count → table ≤ 31 → (new : GroupState) → WritesFree layout table count (finite.get old.places.rows key) (slot_bytes layout slot) (with_row key) old new → IsGroup known count area start (changes ++ change ∷ []) new
-    put_free some small new w = by w.found
+    put_free : table ≤ 31 → (new : GroupState) → WritesFree layout table count (finite.get old.places.rows key) (slot_bytes layout slot) (with_row key) old new → IsGroup known count area start (changes ++ change ∷ []) new
+    put_free small new w = by w.found
       where
         by : FindsFree layout table count w.position old w.between → IsGroup known count area start (changes ++ change ∷ []) new
         by (inl first) =
@@ -230,16 +256,16 @@ module _ (known : KnownLayouts) (count : ℕ) (area : Area) (start : ℕ → ℕ
             let page : GroupState = page_made layout table count old in
             let group : GroupState = one_taken table (with_write w.position (slot_bytes layout slot) (with_row key (Some w.position) (with_free (without_first table page.places.free) page))) in
             let there : page.places.free table ≡ w.position ∷ first.behind = ap (λ (h : GroupState). h.places.free table) (sym made.page) ∙ first.first in
-            let stands = fresh page (page_then layout table found some made.few small) w.nowhere (row_nowhere key w.nowhere) w.position first.behind there in
+            let stands = fresh page (page_then layout table found made.some made.few small) w.nowhere (row_nowhere key w.nowhere) w.position first.behind there in
             let numbers = page_numbers change layout table w.position first.behind (slot_bytes layout slot) group found small made.few made.none_left there slot_short refl refl refl refl in
             subst (IsGroup known count area start (changes ++ change ∷ []))
             (sym (w.written ∙ ap (λ (h : GroupState). one_taken table (with_write w.position (slot_bytes layout slot) (with_row key (Some w.position) h))) first.rest
             ∙ ap (λ (h : GroupState). one_taken table (with_write w.position (slot_bytes layout slot) (with_row key (Some w.position) (with_free (without_first table h.places.free) h)))) made.page))
             (group_of_parts known count area start (changes ++ change ∷ []) group stands numbers)
 
-    pub put_keeps : 1 ≤ count → table ≤ 31 → (new : GroupState) → PutsSlot layout table count (finite.get old.places.rows key) (slot_bytes layout slot) (with_row key) old new → IsGroup known count area start (changes ++ change ∷ []) new
-    put_keeps some small new (inl over) = put_over new over
-    put_keeps some small new (inr free) = put_free some small new free
+    pub put_keeps : table ≤ 31 → (new : GroupState) → PutsSlot layout table count (finite.get old.places.rows key) (slot_bytes layout slot) (with_row key) old new → IsGroup known count area start (changes ++ change ∷ []) new
+    put_keeps small new (inl over) = put_over new over
+    put_keeps small new (inr free) = put_free small new free
 
   module _ (layout : Layout) (table : ℕ) (body : List ℕ) (found : layout_of known table ≡ Some layout) (sound : IsLayout layout) (head : layout.head ≡ Catalogue table) (size : length body ≡ body_width table) where
     abbrev body_name : ℕ × List ℕ
@@ -248,7 +274,7 @@ module _ (known : KnownLayouts) (count : ℕ) (area : Area) (start : ℕ → ℕ
     abbrev put_it : Change
     put_it = PutCat table body
 
-    body_long : length (1 ∷ body) ≡ width table
+    pub body_long : length (1 ∷ body) ≡ width table
     body_long = let w = width_is known table layout found in let c = catalogue_width layout table sound head in omega (arith, w, c, size)
 
     body_short : length (1 ∷ body) ≤ 4096
@@ -278,8 +304,8 @@ module _ (known : KnownLayouts) (count : ℕ) (area : Area) (start : ℕ → ℕ
         body_taken known count (count + length h.added) area changes put_it h sh body_name layout table found head (catalogue_there table layout sound head) p behind (1 ∷ body) first nowhere (let l = body_long in omega (arith, l)) (body_says (with_ranges h.ranges area) p)
         (refl, refl, λ t. one_new (catalogue_applied changes (catalogue_of known area)) body_name (nat_eq table t) none) (body_reads (with_ranges h.ranges area) p)
 
-    body_free : 1 ≤ count → table ≤ 31 → (new : GroupState) → WritesFree layout table count (finite.get old.places.bodies body_name) (1 ∷ body) (with_body body_name) old new → IsGroup known count area start (changes ++ put_it ∷ []) new
-    body_free some small new w = by w.found
+    body_free : table ≤ 31 → (new : GroupState) → WritesFree layout table count (finite.get old.places.bodies body_name) (1 ∷ body) (with_body body_name) old new → IsGroup known count area start (changes ++ put_it ∷ []) new
+    body_free small new w = by w.found
       where
         by : FindsFree layout table count w.position old w.between → IsGroup known count area start (changes ++ put_it ∷ []) new
         by (inl first) =
@@ -293,14 +319,14 @@ module _ (known : KnownLayouts) (count : ℕ) (area : Area) (start : ℕ → ℕ
             let page : GroupState = page_made layout table count old in
             let group : GroupState = one_taken table (with_write w.position (1 ∷ body) (with_body body_name (Some w.position) (with_free (without_first table page.places.free) page))) in
             let there : page.places.free table ≡ w.position ∷ first.behind = ap (λ (h : GroupState). h.places.free table) (sym made.page) ∙ first.first in
-            let stands = body_fresh page (page_then layout table found some made.few small) w.nowhere (body_nowhere body_name w.nowhere) w.position first.behind there in
+            let stands = body_fresh page (page_then layout table found made.some made.few small) w.nowhere (body_nowhere body_name w.nowhere) w.position first.behind there in
             let numbers = page_numbers put_it layout table w.position first.behind (1 ∷ body) group found small made.few made.none_left there body_short refl refl refl refl in
             subst (IsGroup known count area start (changes ++ put_it ∷ []))
             (sym (w.written ∙ ap (λ (h : GroupState). one_taken table (with_write w.position (1 ∷ body) (with_body body_name (Some w.position) h))) first.rest
             ∙ ap (λ (h : GroupState). one_taken table (with_write w.position (1 ∷ body) (with_body body_name (Some w.position) (with_free (without_first table h.places.free) h)))) made.page))
             (group_of_parts known count area start (changes ++ put_it ∷ []) group stands numbers)
 
-    pub put_body_keeps : 1 ≤ count → table ≤ 31 → (new : GroupState) → PutsSlot layout table count (finite.get old.places.bodies body_name) (1 ∷ body) (with_body body_name) old new → IsGroup known count area start (changes ++ put_it ∷ []) new
-    put_body_keeps some small new (inl over) = body_over new over
-    put_body_keeps some small new (inr free) = body_free some small new free
+    pub put_body_keeps : table ≤ 31 → (new : GroupState) → PutsSlot layout table count (finite.get old.places.bodies body_name) (1 ∷ body) (with_body body_name) old new → IsGroup known count area start (changes ++ put_it ∷ []) new
+    put_body_keeps small new (inl over) = body_over new over
+    put_body_keeps small new (inr free) = body_free small new free
 

@@ -1,8 +1,13 @@
+pub mod Adds
+pub mod Counting
 pub mod Effects
+pub mod Finding
 pub mod Groups
+pub mod Grows
 pub mod Keeps
 pub mod Keys
 pub mod Lists
+pub mod Low
 pub mod NewKeys
 pub mod Outside
 pub mod Pairs

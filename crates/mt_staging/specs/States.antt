@@ -1,6 +1,6 @@
 -- What the fields of a group stand for.
 use Rattle.std.specs.Prelude.{◌≡◌, ℕ, [], slice_index}
-use Rattle.mt_places.specs.Parts.{state_of}
+use Rattle.mt_places.specs.Held.{state_of}
 use Rattle.mt_places.specs.Places.{PlacesState}
 use Rattle.mt_staging.specs.declared.group.Group.{Group}
 use Rattle.mt_staging.specs.Group.{GroupState}

@@ -88,6 +88,7 @@ pub record TakesFirst (table position : ℕ) (old new : GroupState) : Type 0 whe
 -- a page of a table was made, since none of its slots was free
 pub record MakesPage (layout : Layout) (table count : ℕ) (old new : GroupState) : Type 0 where
   pub none_left : old.places.free table ≡ []
+  pub some : 1 ≤ count
   pub few : count + length old.added < 2 ^ 28
   pub page : new ≡ page_made layout table count old
 

@@ -1,5 +1,3 @@
-use Rattle.std.proofs.Common.{ap, ◌∙◌}
-use Rattle.std.specs.FinMap as finite
 use Rattle.mt_places.proofs.Bodies.{bodies_total}
 use Rattle.mt_places.proofs.Stays.{inserted-asked}
 use Rattle.mt_places.proofs.tests.a_slot_of_the_catalogue_is_found_and_placed.Goals as goal

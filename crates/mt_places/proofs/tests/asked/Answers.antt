@@ -1,7 +1,6 @@
-use Rattle.std.proofs.Common.{◌≡◌, List, [], ◌∷◌, refl}
+use Rattle.std.proofs.Common.{◌≡◌, [], ◌∷◌, refl}
 use Rattle.std.proofs.lemmas.Result.{IfOk-weaker}
 use Rattle.mt_rowfile.specs.declared.slot.SlotRow.{SlotRow}
-use Rattle.mt_physplan.specs.declared.change.Change.{Change}
 use Rattle.mt_physplan.specs.declared.change.Change.TheVariants.{Put, PutCat}
 use Rattle.mt_places.specs.Held.{state_of}
 use Rattle.mt_places.proofs.Stays.{begun-body, begun-row}

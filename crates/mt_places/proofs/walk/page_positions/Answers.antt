@@ -1,5 +1,5 @@
-use Rattle.std.proofs.Common.{◌≡◌, ℕ, ◌+◌, ◌-◌, ◌/◌, suc, sym, ap, ◌∙◌, arith}
-use Rattle.mt_places.proofs.Pages.{positions-next, within_page}
+use Rattle.std.proofs.Common.{◌≡◌, ◌+◌, ◌-◌, suc, ◌∙◌, arith}
+use Rattle.mt_places.proofs.Pages.{positions-next}
 use Rattle.mt_places.proofs.walk.page_positions.Goals as goal
 
 pub loop-number-preserved : goal.loop-number-preserved

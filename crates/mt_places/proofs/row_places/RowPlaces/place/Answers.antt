@@ -1,7 +1,6 @@
 use Rattle.std.proofs.Common.{◌≡◌, ℕ, Option, IsSome, rules, sym, ap, ◌∙◌, subst}
 use Rattle.std.specs.Map.{lookup}
 use Rattle.std.specs.BTreeMap.{is_at}
-use Rattle.std.specs.FinMap as finite
 use Rattle.mt_physplan.specs.Keys.{key_cmp}
 use Rattle.mt_physplan.proofs.Keys.{keys_exact, keys_total}
 use Rattle.mt_places.specs.Held.{placing}
