@@ -1,6 +1,6 @@
 -- What changes name is asked for from the start, and while the pages are looked through.
 use Rattle.std.proofs.Common.{◌≡◌, ◌≢◌, ℕ, zero, suc, ◌+◌, ◌-◌, ◌*◌, ◌<◌, ◌≤◌, ◌||◌, nat_eq, nat_le, Bool, true, false, cond, IsTrue, List, [], ◌∷◌, map, length, slice_index, slice_index_or, All, Option, None, Some, is_some, refl, sym, ap, subst, ◌∙◌, arith}
-use Rattle.std.specs.Prelude.{filter_map}
+use Rattle.std.specs.Prelude.{filter_map, OnOk, Result, Ok, Err}
 use Rattle.std.specs.List.{list_any, cons_option}
 use Rattle.std.specs.declared.cmp.Ordering.{Ordering}
 use Rattle.std.specs.Ordering.{eq_by_cmp}
@@ -169,3 +169,8 @@ module _ (known : KnownLayouts) (changes : List Change) (suited : All (IsSuited 
         let none : list_any (is_of table) changes ≡ false = sym (is.begins.named table) ∙ ap (λ (f : ℕ → Bool). f table) (sym walked.named) ∙ named in
         walked_past known area n changes is.begun places some is.begins (none_listed known (table_at area n) changes suited (ap (λ t. list_any (is_of t) changes) (sym said) ∙ none)) walked;
   }
+
+-- what holds where a call succeeds gives what follows from it
+pub on_ok : {T E P Q : Type 0} → (r : Result T E) → OnOk r P → (P → Q) → OnOk r Q
+on_ok (Ok x) p so = so p
+on_ok (Err e) p so = tt

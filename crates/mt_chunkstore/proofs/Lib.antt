@@ -11,4 +11,6 @@ pub mod Opening
 pub mod Refused
 pub mod Slots
 pub mod Surveying
+pub mod Stages
+pub mod Taken
 pub mod Walked

@@ -14,7 +14,7 @@ use Rattle.mt_places.specs.Named.{table_of}
 use Rattle.mt_places.specs.Places.{PlacesState}
 use Rattle.mt_staging.specs.Group.{GroupState, IsGroup, IsLost, NeedsPage, Suits, is_new}
 use Rattle.mt_staging.proofs.Effects.{body_small, catalogue_width}
-use Rattle.mt_chunkstore.specs.Changes.{IsThere, MayChange, free_at_start}
+use Rattle.mt_chunkstore.specs.Changes.{IsSuited, IsThere, MayChange, free_at_start}
 use Rattle.mt_chunkstore.proofs.Chosen.{new_body, new_row, none_lost, not_full, there_then}
 
 -- a page has room for a slot of the catalogue
@@ -35,6 +35,17 @@ page_room known layout (RemoveCat table body) places is sound suits needs = absu
 -- why a change is refused: what it marks or removes does not stand, or no page more may be made
 abbrev pub IsRefused : KnownLayouts → ℕ → Change → GroupState → Type 0
 IsRefused known count change group = IsLost change group.places ⊎ ((2 ^ 28 ≤ count + length group.added) × NeedsPage change group.places × (1 ≤ (sizes_of known).count (table_of change)))
+
+some_same : (a b : Layout) → Some a ≡ Some b → a ≡ b
+some_same a b e = cc
+
+-- a page that is wanted has room
+pub refused_room : (known : KnownLayouts) (count : ℕ) (layout : Layout) (change : Change) (group : GroupState) → layout_of known (table_of change) ≡ Some layout → IsLayout layout → IsSuited known change
+    → IsLost change group.places ⊎ ((2 ^ 28 ≤ count + length group.added) × NeedsPage change group.places) → IsRefused known count change group
+refused_room known count layout change group is sound suited (inl lost) = inl lost
+refused_room known count layout change group is sound suited (inr full) =
+    let same : suited.layout ≡ layout = some_same suited.layout layout (sym suited.is_known ∙ is) in
+    inr (full.0, full.1, page_room known layout change group.places is sound (subst (λ (l : Layout). Suits l change) same suited.suits) full.1)
 
 module _ (known : KnownLayouts) (count : ℕ) (area : Area) (before : List Change) (change : Change) (rest : List Change) (group : GroupState)
     (is : IsGroup known count area (free_at_start known (before ++ change ∷ rest) count area) before group) (may : MayChange known (before ++ change ∷ rest) count area) (small : table_of change ≤ 31) where

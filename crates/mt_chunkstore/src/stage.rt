@@ -178,9 +178,11 @@ pub(crate) fn choose(
         → Begins (known_in layouts.now) pages.now area (free_at_start (known_in layouts.now) changes.now pages.now area) (state_of places)
         → MayChange (known_in layouts.now) changes.now pages.now area → ⊥ }
 {
+    // there are no more pages than that count's type has
+    prove!(pages.count() > 0);
     let mut group = Group::new(alloc, places)?;
     for i in 0..changes.len() {
-        add(alloc, layouts, pages, changes.get(i), &mut group)?;
+        add(layouts, pages, changes.get(i), &mut group)?;
     }
     Ok(group)
 }
@@ -188,7 +190,6 @@ pub(crate) fn choose(
 /// Adds the ranges of one change more. `Disk` comes only where what it marks or removes does not stand,
 /// or where it needs a page and there are as many as there may be.
 fn add(
-    alloc: Global,
     layouts: &Layouts,
     pages: &Pages,
     change: &Change,
@@ -209,5 +210,5 @@ fn add(
     let Some(layout) = layouts.get(table_of(change)) else {
         unreachable!();
     };
-    group.add(alloc, layout, pages, change)
+    group.add(layout, pages, change)
 }
