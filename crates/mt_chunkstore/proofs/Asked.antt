@@ -56,7 +56,7 @@ module _ {K : Type 0} {R : K → K → Ordering} (o : IsTotalOrder R) (key_of : 
 
   -- each key that a change names is asked for at the start
   named_asked : (changes : List Change) (k : ℕ) (d : Change) (key : K) → k < length changes → key_of (slice_index_or changes k d) ≡ Some key
-      → finite.contains_key (finite.from_entries {R = R} (map (λ key. (key, None)) (filter_map key_of changes))) key ≡ true
+      → finite.contains_key (begun_with None changes) key ≡ true
   named_asked [] k d key within is = absurd (omega arith)
   named_asked (change ∷ changes) zero d key within is = by (key_of change) is
     where
@@ -78,16 +78,18 @@ module _ {K : Type 0} {R : K → K → Ordering} (o : IsTotalOrder R) (key_of : 
 
 -- what the changes name is asked for
 all_asked : (changes : List Change) (begun : PlacesState) → IsBegun changes begun → All (λ change. IsAsked change begun) changes
-all_asked changes begun is = λ k d within.
-    ((λ key named. ap (λ rows. finite.contains_key rows key) is.rows ∙ named_asked keys_total row_key changes k d key within named),
-    (λ key named. ap (λ bodies. finite.contains_key bodies key) is.bodies ∙ named_asked bodies_total body_key changes k d key within named))
+all_asked changes begun is = λ k d within. (
+  (λ key named. ap (λ rows. finite.contains_key rows key) is.rows ∙ named_asked keys_total row_key changes k d key within named),
+  (λ key named. ap (λ bodies. finite.contains_key bodies key) is.bodies ∙ named_asked bodies_total body_key changes k d key within named),
+)
 
 -- and stays so while a page is looked at
 pub asked_looked : (known : KnownLayouts) (table page : ℕ) (bytes : List ℕ) (old new : PlacesState) → IsLooked known table page bytes old new → (change : Change) → IsAsked change old → IsAsked change new
 asked_looked known table page bytes old new look change asked =
-    let slots = placed_in (sizes_of known) table page bytes in
-    ((λ key named. ap (λ rows. finite.contains_key rows key) look.rows ∙ sought_keeps keys_total (row_in known) slots old.rows key (asked.0 key named)),
-    (λ key named. ap (λ bodies. finite.contains_key bodies key) look.bodies ∙ sought_keeps bodies_total body_in slots old.bodies key (asked.1 key named)))
+    let slots = placed_in (sizes_of known) table page bytes in (
+      (λ key named. ap (λ rows. finite.contains_key rows key) look.rows ∙ sought_keeps keys_total (row_in known) slots old.rows key (asked.0 key named)),
+      (λ key named. ap (λ bodies. finite.contains_key bodies key) look.bodies ∙ sought_keeps bodies_total body_in slots old.bodies key (asked.1 key named)),
+    )
 
 -- a table that a change names has a layout that is known
 named_layout : (known : KnownLayouts) (table : ℕ) (changes : List Change) → All (IsSuited known) changes → list_any (is_of table) changes ≡ true → (layout : Layout) × (layout_of known table ≡ Some layout)

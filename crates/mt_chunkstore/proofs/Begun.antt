@@ -68,8 +68,8 @@ group_begins known area count changes begun group pages counted upto start walke
           (subst (λ rows. IsPlan sizes (row_in known) key_cmp (λ key. key.table) count area [] [] rows group.places.free) (sym walked.rows)
           (subst (IsPlan sizes (row_in known) key_cmp (λ key. key.table) count area [] [] (sought (row_in known) found begun.rows)) (sym free_is)
           (plan_begins keys_total keys_exact sizes (row_in known) (λ key. key.table) count area (row_of_table known) (sizes_sound known) (row_free known) counted
-            (subst (λ n. AreUnique key_cmp (row_in known) (slots_below sizes n area)) counted pages.rows_once) begun.rows
-            (λ key position there. no_place keys_total keys_exact row_key changes key position (ap (λ rows. finite.get rows key) (sym start.rows) ∙ there)) begun.wanted))));
+          (subst (λ n. AreUnique key_cmp (row_in known) (slots_below sizes n area)) counted pages.rows_once) begun.rows
+          (λ key position there. no_place keys_total keys_exact row_key changes key position (ap (λ rows. finite.get rows key) (sym start.rows) ∙ there)) begun.wanted))));
       body_values = [];
       body_changes = refl;
       bodies =
@@ -78,8 +78,8 @@ group_begins known area count changes begun group pages counted upto start walke
           (subst (λ bodies. IsPlan sizes body_in body_cmp (λ key. key.0) count area [] [] bodies group.places.free) (sym walked.bodies)
           (subst (IsPlan sizes body_in body_cmp (λ key. key.0) count area [] [] (sought body_in found begun.bodies)) (sym free_is)
           (plan_begins bodies_total bodies_exact sizes body_in (λ key. key.0) count area body_of_table (sizes_sound known) body_free counted
-            (subst (λ n. AreUnique body_cmp body_in (slots_below sizes n area)) counted pages.bodies_once) begun.bodies
-            (λ key position there. no_place bodies_total bodies_exact body_key changes key position (ap (λ bodies. finite.get bodies key) (sym start.bodies) ∙ there)) begun.wanted))));
+          (subst (λ n. AreUnique body_cmp body_in (slots_below sizes n area)) counted pages.bodies_once) begun.bodies
+          (λ key position there. no_place bodies_total bodies_exact body_key changes key position (ap (λ bodies. finite.get bodies key) (sym start.bodies) ∙ there)) begun.wanted))));
       counted = ap page_count none ∙ same;
       tables_stand = λ page some below. ap (λ a. table_at a page) none;
       tables_added = λ i within. absurd (let l = ap length added in omega arith);

@@ -21,7 +21,7 @@ use Rattle.mt_chunkstore.specs.declared.store.Store.{Store}
 use Rattle.mt_chunkstore.specs.Changes.{MayChange, free_at_start}
 use Rattle.mt_chunkstore.specs.Staged.{IsStaged, StageCause}
 use Rattle.mt_chunkstore.specs.Standing.{Stands}
-use Rattle.mt_chunkstore.specs.Walked.{Begins, IsChosen, IsFound, IsWalked, LookCause}
+use Rattle.mt_chunkstore.specs.Walked.{Begins, IsChosen, IsFound, IsWalked}
 use Rattle.mt_chunkstore.proofs.Begun.{group_begins}
 use Rattle.mt_chunkstore.proofs.Kept.{stands_still}
 
@@ -62,27 +62,19 @@ staged_is changes group places store machine stands few found chosen room =
           (found_begins (known_in store.layouts) changes store.directory.tables store.pages machine places found tells (stands.directory tells) may.pages (stands.pages.counted tells) (omega (arith, upto)));
     }
 
--- a fault of the look is one of the staging
-pub cause_looked : {T U : Type 0} (r : Result U StageFault) (e : StageFault) (known : KnownLayouts) (changes : List Change) (count : ℕ) (old new : Meaning) → r ≡ Err e
-    → LookCause {T = T} (Err e) old.disk_faults new.disk_faults → StageCause r known changes count old new
-cause_looked {U} r e known changes count old new is cause = subst (λ (s : Result U StageFault). StageCause s known changes count old new) (sym is) (by e cause)
-  where
-    by : (e : StageFault) → LookCause (Err e) old.disk_faults new.disk_faults → StageCause {T = U} (Err e) known changes count old new
-    by faults.Disk cause = λ tells may. cause
-    by faults.Memory cause = cause
-
--- and one of the choice comes where the changes may not be made, or memory is wanting
-pub cause_chosen : {U : Type 0} (r : Result U StageFault) (known : KnownLayouts) (changes : List Change) (count : ℕ) (tables : List ℕ) (places : PlacesState) (old new : Meaning) → count ≤ 2 ^ 28
+-- a choice fails where the changes may not be made, or memory is wanting
+pub cause_chosen : {U : Type 0} (r : Result U StageFault) (known : KnownLayouts) (changes : List Change) (count : ℕ) (tables : List ℕ) (places : PlacesState) (old new : Meaning)
     → Looks old new → new.disk_faults ≡ old.disk_faults → (IsTrue old.tells → tables ≡ directory_of count (old.content Pages)) → Counts count old → IsFound known changes count tables count new places
     → IsErr r → (IsErrOf r faults.Disk → (area : Area) → Begins known count area (free_at_start known changes count area) places → MayChange known changes count area → ⊥) → StageCause r known changes count old new
-cause_chosen {U} r known changes count tables places old new upto looks faults listed counts found err never = by r err never
+cause_chosen {U} r known changes count tables places old new looks none listed counts found err never = by r err never
   where
     by : (r : Result U StageFault) → IsErr r → (IsErrOf r faults.Disk → (area : Area) → Begins known count area (free_at_start known changes count area) places → MayChange known changes count area → ⊥) → StageCause r known changes count old new
     by (Ok x) err never = absurd (false≢true err)
     by (Err faults.Disk) err never = λ tells may.
         let told = looks.leaves.told tells in
+        let few = may.few in
         let same : new.content ≡ old.content = looks.content tells in
         let again : MayChange known changes count (new.content Pages) = subst (λ (d : Disk). MayChange known changes count (d Pages)) (sym same) may in
-        let begins = found_begins known changes tables count new places found tells (listed told ∙ ap (λ (d : Disk). directory_of count (d Pages)) (sym same)) again.pages (ap (λ (d : Disk). page_count (d Pages)) same ∙ counts.counted told) upto in
+        let begins = found_begins known changes tables count new places found tells (listed told ∙ ap (λ (d : Disk). directory_of count (d Pages)) (sym same)) again.pages (ap (λ (d : Disk). page_count (d Pages)) same ∙ counts.counted told) (omega (arith, few)) in
         absurd (never refl (new.content Pages) begins again)
-    by (Err faults.Memory) err never = faults
+    by (Err faults.Memory) err never = none

@@ -178,7 +178,7 @@ pub(crate) fn choose(
         → Begins (known_in layouts.now) pages.now area (free_at_start (known_in layouts.now) changes.now pages.now area) (state_of places)
         → MayChange (known_in layouts.now) changes.now pages.now area → ⊥ }
 {
-    // there are no more pages than that count's type has
+    // what is known of a count of pages, 2^28 at most, is known once it is asked for
     prove!(pages.count() > 0);
     let mut group = Group::new(alloc, places)?;
     for i in 0..changes.len() {

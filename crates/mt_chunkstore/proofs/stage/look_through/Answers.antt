@@ -1,6 +1,8 @@
 -- Page by page, those of tables that are named.
-use Rattle.std.proofs.Common.{◌≡◌, ◌<◌, ℕ, sym, subst, ap, refl, ◌∙◌, arith}
+use Rattle.std.proofs.Common.{◌≡◌, ◌*◌, ◌<◌, ℕ, sym, subst, ap, refl, ◌∙◌, arith}
 use Rattle.mt_machine.specs.LeavesLaws.{looks_itself, looks_then}
+use Rattle.mt_machine.specs.declared.machine.Area.TheVariants as areas
+use Rattle.mt_tables.specs.Pages.{bytes_at}
 use Rattle.mt_directory.specs.Known.{known_in}
 use Rattle.mt_tables.specs.Rows.{layout_of}
 use Rattle.mt_places.specs.Held.{state_of}
@@ -37,7 +39,7 @@ loop-n-preserved g c =
             found = rw (w.m-is, w.places-is) (found_page known c.args.changes.now c.requires.suited n c.args.pages.now c.loop-n.auto.n within tables
                 (meaning c.loop-n.m) (meaning w.look_at.new.m) (state_of c.loop-n.places) (state_of w.look_at.new.places) before.found w.look_at.ensures.looks
                 (ap (state_of c.loop-n.places).named (sym c.table-table.ensures) ∙ sym c.names.ensures ∙ w.if-names.true)
-                (λ tells layout is. subst (λ t. IsLooked known t n _ (state_of c.loop-n.places) (state_of w.look_at.new.places)) c.table-table.ensures
+                (λ tells layout is. subst (λ t. IsLooked known t n (bytes_at ((meaning c.loop-n.m).content areas.Pages) (4096 * n) 4096) (state_of c.loop-n.places) (state_of w.look_at.new.places)) c.table-table.ensures
                 (w.in_ok-look_at.ensures.looked tells layout (ap (layout_of known) c.table-table.ensures ∙ is)))
                 w.in_ok-look_at.ensures.asked);
             looks = rw w.m-is (looks_then before.looks w.look_at.ensures.looks);
