@@ -1,5 +1,5 @@
 -- What changes name is asked for from the start, and while the pages are looked through.
-use Rattle.std.proofs.Common.{◌≡◌, ◌≢◌, ℕ, zero, suc, ◌+◌, ◌-◌, ◌*◌, ◌<◌, ◌≤◌, ◌||◌, nat_eq, nat_le, Bool, true, false, cond, IsTrue, List, [], ◌∷◌, map, length, slice_index, slice_index_or, All, Option, None, Some, is_some, refl, sym, ap, subst, ◌∙◌, arith}
+use Rattle.std.proofs.Common.{◌≡◌, ℕ, zero, suc, ◌+◌, ◌-◌, ◌*◌, ◌<◌, ◌≤◌, ◌||◌, nat_le, Bool, true, false, cond, IsTrue, List, [], ◌∷◌, map, length, slice_index, slice_index_or, All, Option, None, Some, is_some, refl, sym, ap, subst, ◌∙◌, arith}
 use Rattle.std.specs.Prelude.{filter_map, OnOk, Result, Ok, Err}
 use Rattle.std.specs.List.{list_any, cons_option}
 use Rattle.std.specs.declared.cmp.Ordering.{Ordering}
@@ -15,7 +15,6 @@ use Rattle.mt_machine.specs.Meaning.{Disk, Meaning}
 use Rattle.mt_machine.specs.Leaves.{Looks}
 use Rattle.mt_rowfile.specs.declared.layout.Layout.{Layout}
 use Rattle.mt_physplan.specs.declared.change.Change.{Change}
-use Rattle.mt_physplan.specs.declared.key.Key.{Key}
 use Rattle.mt_physplan.proofs.Keys.{keys_total}
 use Rattle.mt_tables.specs.Pages.{bytes_at, table_at}
 use Rattle.mt_tables.specs.Plan.{PlacedSlot, placed_in, sought, with_place}

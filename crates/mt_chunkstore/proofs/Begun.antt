@@ -1,6 +1,6 @@
 -- What a look through the pages found is the group of no changes.
-use Rattle.std.proofs.Common.{◌≡◌, ℕ, ◌+◌, ◌*◌, ◌<◌, ◌≤◌, ◌^◌, ◌&&◌, nat_eq, min, cond, List, [], ◌∷◌, length, map, take, Option, None, Some, refl, sym, ap, subst, ◌∙◌, arith}
-use Rattle.std.specs.Prelude.{count_by, filter, filter_map, All}
+use Rattle.std.proofs.Common.{◌≡◌, ℕ, ◌+◌, ◌*◌, ◌≤◌, ◌^◌, ◌&&◌, nat_eq, min, cond, List, [], ◌∷◌, length, map, take, refl, sym, ap, subst, ◌∙◌, arith}
+use Rattle.std.specs.Prelude.{count_by, filter, All}
 use Rattle.std.specs.FinMap as finite
 use Rattle.std.proofs.lemmas.List.{length-map, length-take}
 use Rattle.std.proofs.lemmas.List.Sums.{length-filter, sum_by-cons}
@@ -9,7 +9,6 @@ use Rattle.mt_journal.specs.Commits.{payload_size}
 use Rattle.mt_journal.specs.Replay.{with_ranges}
 use Rattle.mt_rowfile.specs.Pages.{is_free}
 use Rattle.mt_physplan.specs.declared.change.Change.{Change}
-use Rattle.mt_physplan.specs.declared.key.Key.{Key}
 use Rattle.mt_physplan.specs.Applied.{body_cmp}
 use Rattle.mt_physplan.specs.Keys.{key_cmp}
 use Rattle.mt_physplan.proofs.Keys.{keys_exact, keys_total}
@@ -23,10 +22,10 @@ use Rattle.mt_tables.proofs.Bodies.{bodies_exact, bodies_total}
 use Rattle.mt_tables.proofs.Readings.{body_free, body_of_table, row_free, row_of_table}
 use Rattle.mt_tables.proofs.Sizes.{sizes_sound}
 use Rattle.mt_pages.specs.Control.{IsPageZero}
-use Rattle.mt_places.specs.Named.{body_key, is_of, is_put, row_key}
+use Rattle.mt_places.specs.Named.{body_key, row_key}
 use Rattle.mt_places.specs.Places.{IsBegun, PlacesState}
 use Rattle.mt_staging.specs.Group.{GroupState, IsGroup, pages_of, used_in}
-use Rattle.mt_chunkstore.specs.Changes.{free_at_start, free_count}
+use Rattle.mt_chunkstore.specs.Changes.{free_at_start}
 use Rattle.mt_chunkstore.specs.Walked.{IsWalked}
 use Rattle.mt_chunkstore.proofs.Walked.{no_place}
 

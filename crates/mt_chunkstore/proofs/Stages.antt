@@ -1,5 +1,5 @@
 -- What is staged stands for the store, and why it was not.
-use Rattle.std.proofs.Common.{◌≡◌, ℕ, ◌+◌, ◌*◌, ◌≤◌, ◌^◌, IsTrue, List, length, Result, Ok, Err, refl, sym, ap, subst, ◌∙◌, arith}
+use Rattle.std.proofs.Common.{◌≡◌, ℕ, ◌≤◌, ◌^◌, IsTrue, List, length, Result, Ok, Err, refl, sym, ap, subst, ◌∙◌, arith}
 use Rattle.std.specs.Prelude.{IsErr, IsErrOf}
 use Rattle.std.proofs.lemmas.Bool.{false≢true}
 use Rattle.mt_machine.specs.declared.machine.Area.TheVariants.{Pages}
@@ -14,7 +14,7 @@ use Rattle.mt_pages.specs.Standing.{Counts}
 use Rattle.mt_directory.specs.Directory.{directory_of}
 use Rattle.mt_directory.specs.Known.{known_in}
 use Rattle.mt_places.specs.Places.{PlacesState}
-use Rattle.mt_staging.specs.Group.{GroupState, IsGroup}
+use Rattle.mt_staging.specs.Group.{GroupState}
 use Rattle.mt_staging.specs.declared.fault.StageFault.{StageFault}
 use Rattle.mt_staging.specs.declared.fault.StageFault.TheVariants as faults
 use Rattle.mt_chunkstore.specs.declared.store.Store.{Store}

@@ -1,6 +1,6 @@
 -- The changes so far, and the group of one more.
-use Rattle.std.proofs.Common.{◌≡◌, ℕ, zero, suc, ◌+◌, ◌*◌, ◌<◌, ◌≤◌, ◌^◌, List, [], ◌∷◌, ◌++◌, take, drop, length, All, Some, refl, sym, ap, subst, ◌∙◌, arith, length-append}
-use Rattle.std.specs.Prelude.{slice_get, slice_index_or}
+use Rattle.std.proofs.Common.{◌≡◌, ℕ, ◌+◌, ◌≤◌, ◌^◌, List, [], ◌∷◌, ◌++◌, take, drop, length, All, Some, refl, sym, ap, subst, ◌∙◌, arith, length-append}
+use Rattle.std.specs.Prelude.{slice_get}
 use Rattle.std.proofs.lemmas.List.{take-append-drop, take_more}
 use Rattle.std.proofs.lemmas.Option.{get_or_from_slice_get, slice_get_within}
 use Rattle.mt_journal.specs.Commits.{payload_size}
@@ -10,7 +10,7 @@ use Rattle.mt_tables.specs.Rows.{KnownLayouts}
 use Rattle.mt_places.specs.Places.{PlacesState}
 use Rattle.mt_staging.specs.Group.{GroupState, IsGroup}
 use Rattle.mt_staging.specs.States.{IsEmptyGroup}
-use Rattle.mt_chunkstore.specs.Walked.{Begins, IsChosen}
+use Rattle.mt_chunkstore.specs.Walked.{IsChosen}
 
 -- what holds of each member holds of the one at a number
 pub all_at : {X : Type 0} (P : X → Type 0) (xs : List X) (i : ℕ) (x : X) → All P xs → slice_get xs i ≡ Some x → P x

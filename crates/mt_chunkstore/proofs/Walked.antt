@@ -1,7 +1,7 @@
 -- A look through the pages from page 1 on, which passes over those of tables that no change names.
-use Rattle.std.proofs.Common.{◌≡◌, ◌≢◌, ℕ, zero, suc, ◌+◌, ◌-◌, ◌*◌, ◌<◌, ◌≤◌, ◌&&◌, ◌||◌, Bool, true, false, cond, nat_eq, List, [], ◌∷◌, ◌++◌, length, map, flat_map, take, Option, None, Some, refl, sym, ap, subst, ◌∙◌, arith}
-use Rattle.std.specs.Prelude.{filter_map, count_by, is_some}
-use Rattle.std.specs.List.{list_any, range_with_len, cons_option}
+use Rattle.std.proofs.Common.{◌≡◌, ◌≢◌, ℕ, zero, suc, ◌+◌, ◌-◌, ◌*◌, ◌≤◌, ◌&&◌, ◌||◌, Bool, true, false, cond, nat_eq, List, [], ◌∷◌, ◌++◌, map, take, Option, None, Some, refl, sym, ap, ◌∙◌, arith}
+use Rattle.std.specs.Prelude.{filter_map, count_by}
+use Rattle.std.specs.List.{list_any, cons_option}
 use Rattle.std.specs.Ordering.{eq_by_cmp}
 use Rattle.std.specs.declared.cmp.Ordering.{Ordering}
 use Rattle.std.specs.Cmp.{IsTotalOrder}
@@ -14,13 +14,10 @@ use Rattle.mt_journal.specs.Layout.{Area}
 use Rattle.mt_physplan.specs.declared.change.Change.{Change}
 use Rattle.mt_physplan.specs.declared.change.Change.TheVariants.{Put, Mark, Remove, PutCat, RemoveCat}
 use Rattle.mt_physplan.specs.declared.key.Key.{Key}
-use Rattle.mt_physplan.specs.Applied.{body_cmp}
-use Rattle.mt_physplan.specs.Keys.{key_cmp}
 use Rattle.mt_physplan.proofs.Keys.{keys_exact, keys_total}
 use Rattle.mt_tables.specs.Pages.{SlotSizes, bytes_at, page_places, places_below, table_at}
 use Rattle.mt_tables.specs.Plan.{PlacedSlot, free_in, placed, placed_in, sought}
 use Rattle.mt_tables.specs.Rows.{KnownLayouts, body_in, row_in, sizes_of}
-use Rattle.mt_tables.specs.Tables.{TableSlot}
 use Rattle.mt_tables.proofs.Bodies.{bodies_exact, bodies_total}
 use Rattle.mt_tables.proofs.OneSlot.{tied_are_one}
 use Rattle.mt_tables.proofs.PageSlots.{placed_page}

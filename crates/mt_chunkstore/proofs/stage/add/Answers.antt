@@ -1,10 +1,8 @@
 -- The layout of the change's table is known.
-use Rattle.std.proofs.Common.{◌≡◌, Some, sym, ap, ◌∙◌, subst}
-use Rattle.mt_rowfile.specs.declared.layout.Layout.{Layout}
+use Rattle.std.proofs.Common.{◌≡◌, Some, sym, ap, ◌∙◌}
 use Rattle.mt_tables.specs.Rows.{layout_of}
 use Rattle.mt_directory.specs.Known.{known_in}
 use Rattle.mt_places.specs.Named as named
-use Rattle.mt_staging.specs.Group.{Suits}
 use Rattle.mt_staging.specs.States.{group_of}
 use Rattle.mt_chunkstore.proofs.Asked.{on_ok}
 use Rattle.mt_chunkstore.proofs.Refused.{refused_room}

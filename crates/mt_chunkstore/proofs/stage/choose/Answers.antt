@@ -1,5 +1,5 @@
 -- One change after another.
-use Rattle.std.proofs.Common.{◌≡◌, ◌+◌, ◌≤◌, ◌^◌, List, slice_index_or, take, drop, All, sym, ap, subst, ◌∙◌, rules, arith}
+use Rattle.std.proofs.Common.{◌+◌, ◌≤◌, ◌^◌, slice_index_or, take, drop, All, sym, subst, rules}
 use Rattle.mt_physplan.specs.declared.change.Change.{Change}
 use Rattle.mt_directory.specs.Known.{known_in}
 use Rattle.mt_places.specs.Held.{state_of}

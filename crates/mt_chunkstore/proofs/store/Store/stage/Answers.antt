@@ -1,5 +1,5 @@
 -- The store stands still, and the group is one for its pages.
-use Rattle.std.proofs.Common.{◌≡◌, ◌≤◌, ℕ, List, length, refl, sym, subst, rules, ◌∙◌}
+use Rattle.std.proofs.Common.{◌≤◌, ℕ, List, refl, sym, subst, rules}
 use Rattle.mt_journal.specs.Layout.{Area}
 use Rattle.mt_directory.specs.Known.{known_in}
 use Rattle.mt_places.specs.Held.{state_of}
