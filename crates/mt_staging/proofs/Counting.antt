@@ -1,5 +1,5 @@
 -- The counts of a group stay below the number of its ranges.
-use Rattle.std.proofs.Common.{◌≡◌, ℕ, ◌+◌, ◌≤◌, Bool, true, false, cond, nat_eq, List, [], ◌∷◌, ◌++◌, length, slice_index, sym, ap, ◌∙◌, subst, arith, length-append}
+use Rattle.std.proofs.Common.{◌≡◌, ℕ, zero, suc, ◌+◌, ◌≤◌, Bool, true, false, cond, nat_eq, List, [], ◌∷◌, ◌++◌, length, slice_index, replicate, refl, sym, ap, ◌∙◌, subst, arith, length-append}
 use Rattle.mt_journal.specs.Layout.{Range}
 use Rattle.mt_staging.specs.Few.{AreFew}
 use Rattle.mt_staging.specs.Steps.{one_more_of}
@@ -29,3 +29,15 @@ few_counted old new range counts then table few is counted = record {
     at_most : (b : Bool) (n : ℕ) → cond b (n + 1) n ≤ n + 1
     at_most true n = omega arith
     at_most false n = omega arith
+
+zero_at : (n t : ℕ) → slice_index (replicate n 0) t ≡ 0
+zero_at zero t = refl
+zero_at (suc n) zero = refl
+zero_at (suc n) (suc t) = zero_at n t
+
+-- where nothing was counted
+pub none_counted : (t : ℕ) → slice_index (replicate 32 0) t ≡ 0
+none_counted t = zero_at 32 t
+
+pub few_none : (ranges : List Range) → AreFew ranges (replicate 32 0)
+few_none ranges = record { each = λ t. let e = zero_at 32 t in omega (arith, e) }

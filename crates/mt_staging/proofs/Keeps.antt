@@ -99,8 +99,8 @@ module _ (known : KnownLayouts) (count : ℕ) (area : Area) (start : ℕ → ℕ
       let says : row_in known (table, overwritten (mark ∷ []) bytes) ≡ Some (key, cell) = marked_row known table mark layout bytes key held.0 found head is (omega (arith, some, long)) old_says in
       let used = not_zero (slice_index bytes 0) (row_is_used known (table, bytes) (key, held.0) old_says) in
       let stands = row_rewritten known count total area changes change old s key layout found (subst IsOfRows (sym head) tt) p cell (mark ∷ []) w.stands (omega (arith, some)) says
-          (ap (λ o. with_mark mark key o (applied changes (rows_of known area))) (row_there key p w.stands), refl, λ t. never_new (nat_eq table t))
-          (λ r puts. readable_by known table layout (overwritten (mark ∷ []) bytes) found (marked_readable layout mark bytes head is used (slot_by known table layout bytes found r))) in
+      (ap (λ o. with_mark mark key o (applied changes (rows_of known area))) (row_there key p w.stands), refl, λ t. never_new (nat_eq table t))
+      (λ r puts. readable_by known table layout (overwritten (mark ∷ []) bytes) found (marked_readable layout mark bytes head is used (slot_by known table layout bytes found r))) in
       subst (IsGroup known count area start (changes ++ change ∷ [])) (sym w.written)
       (group_of_parts known count area start (changes ++ change ∷ []) (with_write p (mark ∷ []) old) stands (over_numbers change p (mark ∷ []) (omega arith)))
 
@@ -115,9 +115,9 @@ module _ (known : KnownLayouts) (count : ℕ) (area : Area) (start : ℕ → ℕ
       let some = (sizes_sound known).some table in
       let then : GroupState = one_freed table (with_row key None (with_write p (0 ∷ []) old)) in
       let stands = row_removed known count total area changes change old s key layout found rows p (0 ∷ []) w.stands (omega (arith, some)) (emptied_free bytes)
-          (readings.row_free known (table, overwritten (0 ∷ []) bytes) (emptied_free bytes))
-          (refl, refl, λ t. never_new (nat_eq table t))
-          (λ r puts. readable_by known table layout (overwritten (0 ∷ []) bytes) found (emptied_readable layout bytes (slot_by known table layout bytes found r))) in
+      (readings.row_free known (table, overwritten (0 ∷ []) bytes) (emptied_free bytes))
+      (refl, refl, λ t. never_new (nat_eq table t))
+      (λ r puts. readable_by known table layout (overwritten (0 ∷ []) bytes) found (emptied_readable layout bytes (slot_by known table layout bytes found r))) in
       let numbers = numbers_within known count start changes change old then n (record { position = p; bytes = 0 ∷ []; ranges = refl; short = omega arith; added = refl; filled = λ t. refl; no_more = λ t. omega arith }) in
       subst (IsGroup known count area start (changes ++ change ∷ [])) (sym w.written) (group_of_parts known count area start (changes ++ change ∷ []) then stands numbers)
 
@@ -131,9 +131,9 @@ module _ (known : KnownLayouts) (count : ℕ) (area : Area) (start : ℕ → ℕ
       let some = (sizes_sound known).some table in
       let then : GroupState = one_freed table (with_body key None (with_write p (0 ∷ []) old)) in
       let stands = body_removed known count total area changes change old s key layout table found head (catalogue_there table layout sound head) p (0 ∷ []) w.stands (omega (arith, some)) (emptied_free bytes)
-          (readings.body_free (table, overwritten (0 ∷ []) bytes) (emptied_free bytes))
-          (refl, refl, λ t. never_new (nat_eq table t))
-          (λ r puts. readable_by known table layout (overwritten (0 ∷ []) bytes) found (emptied_readable layout bytes (slot_by known table layout bytes found r))) in
+      (readings.body_free (table, overwritten (0 ∷ []) bytes) (emptied_free bytes))
+      (refl, refl, λ t. never_new (nat_eq table t))
+      (λ r puts. readable_by known table layout (overwritten (0 ∷ []) bytes) found (emptied_readable layout bytes (slot_by known table layout bytes found r))) in
       let numbers = numbers_within known count start changes change old then n (record { position = p; bytes = 0 ∷ []; ranges = refl; short = omega arith; added = refl; filled = λ t. refl; no_more = λ t. omega arith }) in
       subst (IsGroup known count area start (changes ++ change ∷ [])) (sym w.written) (group_of_parts known count area start (changes ++ change ∷ []) then stands numbers)
 
@@ -229,7 +229,7 @@ module _ (known : KnownLayouts) (count : ℕ) (area : Area) (start : ℕ → ℕ
     put_over new w =
         let p = w.position in
         let stands = row_rewritten known count total area changes change old s key layout found rows p (cell_of slot) (slot_bytes layout slot) w.stands (let l = slot_long in omega (arith, l)) (slot_says before p)
-            (refl, refl, λ t. none_new (applied changes (rows_of known area)) key (s.rows.held key p w.stands).0 (nat_eq table t) (row_there key p w.stands)) (slot_reads before p) in
+        (refl, refl, λ t. none_new (applied changes (rows_of known area)) key (s.rows.held key p w.stands).0 (nat_eq table t) (row_there key p w.stands)) (slot_reads before p) in
         subst (IsGroup known count area start (changes ++ change ∷ [])) (sym w.written)
         (group_of_parts known count area start (changes ++ change ∷ []) (with_write p (slot_bytes layout slot) old) stands (over_numbers change p (slot_bytes layout slot) slot_short))
 
@@ -293,7 +293,7 @@ module _ (known : KnownLayouts) (count : ℕ) (area : Area) (start : ℕ → ℕ
     body_over new w =
         let p = w.position in
         let stands = body_rewritten known count total area changes put_it old s body_name layout table found head (catalogue_there table layout sound head) p (1 ∷ body) w.stands (let l = body_long in omega (arith, l)) (body_says before p)
-            (refl, refl, λ t. none_new (catalogue_applied changes (catalogue_of known area)) body_name (s.bodies.held body_name p w.stands).0 (nat_eq table t) (body_there body_name p w.stands)) (body_reads before p) in
+        (refl, refl, λ t. none_new (catalogue_applied changes (catalogue_of known area)) body_name (s.bodies.held body_name p w.stands).0 (nat_eq table t) (body_there body_name p w.stands)) (body_reads before p) in
         subst (IsGroup known count area start (changes ++ put_it ∷ [])) (sym w.written)
         (group_of_parts known count area start (changes ++ put_it ∷ []) (with_write p (1 ∷ body) old) stands (over_numbers put_it p (1 ∷ body) body_short))
 
@@ -329,4 +329,3 @@ module _ (known : KnownLayouts) (count : ℕ) (area : Area) (start : ℕ → ℕ
     pub put_body_keeps : table ≤ 31 → (new : GroupState) → PutsSlot layout table count (finite.get old.places.bodies body_name) (1 ∷ body) (with_body body_name) old new → IsGroup known count area start (changes ++ put_it ∷ []) new
     put_body_keeps small new (inl over) = body_over new over
     put_body_keeps small new (inr free) = body_free small new free
-

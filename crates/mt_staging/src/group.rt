@@ -122,8 +122,19 @@ impl Group {
     {
         match change {
             Change::Put { table, slot } => self.put(layout, pages, *table, slot),
-            Change::Mark { table, tenant, row, mark } => self.mark(&make_key(*table, *tenant, 0, 0, *row), *mark),
-            Change::Remove { table, tenant, base, chunk, row } => self.remove(&make_key(*table, *tenant, *base, *chunk, *row)),
+            Change::Mark {
+                table,
+                tenant,
+                row,
+                mark,
+            } => self.mark(&make_key(*table, *tenant, 0, 0, *row), *mark),
+            Change::Remove {
+                table,
+                tenant,
+                base,
+                chunk,
+                row,
+            } => self.remove(&make_key(*table, *tenant, *base, *chunk, *row)),
             Change::PutCat { table, body } => self.put_body(layout, pages, *table, body),
             Change::RemoveCat { table, body } => self.remove_body(*table, body),
         }
@@ -144,7 +155,8 @@ impl Group {
             return Err(StageFault::Disk);
         }
         pages.plan_new_page(table, extra + 1, &mut self.body)?;
-        self.places.offer_page(layout, table, pages.count() + extra)?;
+        self.places
+            .offer_page(layout, table, pages.count() + extra)?;
         self.added.push(table)?;
         Ok(())
     }
@@ -170,7 +182,13 @@ impl Group {
     }
 
     /// Puts a slot of a row that stands nowhere.
-    fn put_new(&mut self, layout: &Layout, pages: &Pages, key: &Key, bytes: &[u8]) -> Result<(), StageFault>
+    fn put_new(
+        &mut self,
+        layout: &Layout,
+        pages: &Pages,
+        key: &Key,
+        bytes: &[u8],
+    ) -> Result<(), StageFault>
         requires layout { IsLayout layout.now }
         requires room { 1 ≤ slots_per_page layout.now }
         requires table { key.now.table ≤ 31 }
@@ -221,7 +239,13 @@ impl Group {
     }
 
     /// Puts a slot of a row, over the one that stands or where one is free.
-    fn put(&mut self, layout: &Layout, pages: &Pages, table: u32, slot: &SlotRow) -> Result<(), StageFault>
+    fn put(
+        &mut self,
+        layout: &Layout,
+        pages: &Pages,
+        table: u32,
+        slot: &SlotRow,
+    ) -> Result<(), StageFault>
         requires layout { IsLayout layout.now }
         requires rows { IsOfRows layout.now.head }
         requires fits { FitsLayout layout.now slot.now }
@@ -247,7 +271,14 @@ impl Group {
     }
 
     /// Puts a slot of the catalogue that stands nowhere.
-    fn put_new_body(&mut self, layout: &Layout, pages: &Pages, table: u32, body: &CatBody, bytes: &[u8]) -> Result<(), StageFault>
+    fn put_new_body(
+        &mut self,
+        layout: &Layout,
+        pages: &Pages,
+        table: u32,
+        body: &CatBody,
+        bytes: &[u8],
+    ) -> Result<(), StageFault>
         requires layout { IsLayout layout.now }
         requires room { 1 ≤ slots_per_page layout.now }
         requires table { table ≤ 31 }
@@ -266,7 +297,13 @@ impl Group {
     }
 
     /// Puts a slot of the catalogue, over the one that stands or where one is free.
-    fn put_body(&mut self, layout: &Layout, pages: &Pages, table: u32, body: &CatBody) -> Result<(), StageFault>
+    fn put_body(
+        &mut self,
+        layout: &Layout,
+        pages: &Pages,
+        table: u32,
+        body: &CatBody,
+    ) -> Result<(), StageFault>
         requires layout { IsLayout layout.now }
         requires head { layout.now.head ≡ Catalogue table }
         requires size { length body.now ≡ body_width table }
