@@ -1,6 +1,6 @@
 -- What a look through the pages found is the group of no changes.
-use Rattle.std.proofs.Common.{◌≡◌, ℕ, ◌+◌, ◌*◌, ◌<◌, ◌≤◌, ◌^◌, ◌&&◌, nat_eq, min, cond, List, [], ◌∷◌, length, map, take, Option, None, Some, refl, sym, ap, subst, ◌∙◌, arith}
-use Rattle.std.specs.Prelude.{count_by, filter, filter_map, All}
+use Rattle.std.proofs.Common.{◌≡◌, ℕ, ◌+◌, ◌*◌, ◌≤◌, ◌^◌, ◌&&◌, nat_eq, min, cond, List, [], ◌∷◌, length, map, take, refl, sym, ap, subst, ◌∙◌, arith}
+use Rattle.std.specs.Prelude.{count_by, filter, All}
 use Rattle.std.specs.FinMap as finite
 use Rattle.std.proofs.lemmas.List.{length-map, length-take}
 use Rattle.std.proofs.lemmas.List.Sums.{length-filter, sum_by-cons}
@@ -9,7 +9,6 @@ use Rattle.mt_journal.specs.Commits.{payload_size}
 use Rattle.mt_journal.specs.Replay.{with_ranges}
 use Rattle.mt_rowfile.specs.Pages.{is_free}
 use Rattle.mt_physplan.specs.declared.change.Change.{Change}
-use Rattle.mt_physplan.specs.declared.key.Key.{Key}
 use Rattle.mt_physplan.specs.Applied.{body_cmp}
 use Rattle.mt_physplan.specs.Keys.{key_cmp}
 use Rattle.mt_physplan.proofs.Keys.{keys_exact, keys_total}
@@ -23,10 +22,10 @@ use Rattle.mt_tables.proofs.Bodies.{bodies_exact, bodies_total}
 use Rattle.mt_tables.proofs.Readings.{body_free, body_of_table, row_free, row_of_table}
 use Rattle.mt_tables.proofs.Sizes.{sizes_sound}
 use Rattle.mt_pages.specs.Control.{IsPageZero}
-use Rattle.mt_places.specs.Named.{body_key, is_of, is_put, row_key}
+use Rattle.mt_places.specs.Named.{body_key, row_key}
 use Rattle.mt_places.specs.Places.{IsBegun, PlacesState}
 use Rattle.mt_staging.specs.Group.{GroupState, IsGroup, pages_of, used_in}
-use Rattle.mt_chunkstore.specs.Changes.{free_at_start, free_count}
+use Rattle.mt_chunkstore.specs.Changes.{free_at_start}
 use Rattle.mt_chunkstore.specs.Walked.{IsWalked}
 use Rattle.mt_chunkstore.proofs.Walked.{no_place}
 
@@ -68,8 +67,8 @@ group_begins known area count changes begun group pages counted upto start walke
           (subst (λ rows. IsPlan sizes (row_in known) key_cmp (λ key. key.table) count area [] [] rows group.places.free) (sym walked.rows)
           (subst (IsPlan sizes (row_in known) key_cmp (λ key. key.table) count area [] [] (sought (row_in known) found begun.rows)) (sym free_is)
           (plan_begins keys_total keys_exact sizes (row_in known) (λ key. key.table) count area (row_of_table known) (sizes_sound known) (row_free known) counted
-            (subst (λ n. AreUnique key_cmp (row_in known) (slots_below sizes n area)) counted pages.rows_once) begun.rows
-            (λ key position there. no_place keys_total keys_exact row_key changes key position (ap (λ rows. finite.get rows key) (sym start.rows) ∙ there)) begun.wanted))));
+          (subst (λ n. AreUnique key_cmp (row_in known) (slots_below sizes n area)) counted pages.rows_once) begun.rows
+          (λ key position there. no_place keys_total keys_exact row_key changes key position (ap (λ rows. finite.get rows key) (sym start.rows) ∙ there)) begun.wanted))));
       body_values = [];
       body_changes = refl;
       bodies =
@@ -78,8 +77,8 @@ group_begins known area count changes begun group pages counted upto start walke
           (subst (λ bodies. IsPlan sizes body_in body_cmp (λ key. key.0) count area [] [] bodies group.places.free) (sym walked.bodies)
           (subst (IsPlan sizes body_in body_cmp (λ key. key.0) count area [] [] (sought body_in found begun.bodies)) (sym free_is)
           (plan_begins bodies_total bodies_exact sizes body_in (λ key. key.0) count area body_of_table (sizes_sound known) body_free counted
-            (subst (λ n. AreUnique body_cmp body_in (slots_below sizes n area)) counted pages.bodies_once) begun.bodies
-            (λ key position there. no_place bodies_total bodies_exact body_key changes key position (ap (λ bodies. finite.get bodies key) (sym start.bodies) ∙ there)) begun.wanted))));
+          (subst (λ n. AreUnique body_cmp body_in (slots_below sizes n area)) counted pages.bodies_once) begun.bodies
+          (λ key position there. no_place bodies_total bodies_exact body_key changes key position (ap (λ bodies. finite.get bodies key) (sym start.bodies) ∙ there)) begun.wanted))));
       counted = ap page_count none ∙ same;
       tables_stand = λ page some below. ap (λ a. table_at a page) none;
       tables_added = λ i within. absurd (let l = ap length added in omega arith);

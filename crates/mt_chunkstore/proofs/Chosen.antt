@@ -1,6 +1,6 @@
 -- What a group of all changes means for the store, and that none of its steps is refused where the
 -- changes may be made.
-use Rattle.std.proofs.Common.{◌≡◌, ◌⊎◌, inl, inr, ℕ, zero, suc, ◌+◌, ◌-◌, ◌*◌, ◌<◌, ◌≤◌, ◌^◌, ◌&&◌, nat_eq, nat_le, min, Bool, true, false, cond, not, List, [], ◌∷◌, ◌++◌, length, map, slice_index, Option, None, Some, refl, sym, ap, subst, ◌∙◌, arith}
+use Rattle.std.proofs.Common.{◌≡◌, ℕ, zero, suc, ◌+◌, ◌-◌, ◌*◌, ◌<◌, ◌≤◌, ◌&&◌, nat_eq, nat_le, min, Bool, true, false, cond, not, List, [], ◌∷◌, ◌++◌, length, map, slice_index, None, Some, refl, sym, ap, subst, ◌∙◌, arith}
 use Rattle.std.specs.Prelude.{count_by, sum_by, filter_map, is_some, All}
 use Rattle.std.specs.List.{range_with_len}
 use Rattle.std.specs.FinMap as finite
@@ -20,12 +20,11 @@ use Rattle.mt_tables.specs.Tables.{slots_below}
 use Rattle.mt_tables.specs.Unique.{AreUnique}
 use Rattle.mt_directory.specs.Directory.{directory_of, listed_table}
 use Rattle.mt_places.specs.Named.{is_of, is_put, table_of}
-use Rattle.mt_places.specs.Places.{PlacesState}
 use Rattle.mt_staging.specs.Group.{GroupState, IsGroup, IsLost, PutsReadable, is_new, new_keys, pages_of}
-use Rattle.mt_chunkstore.specs.Changes.{AreChanged, AreThere, IsThere, MayChange, all_needed, free_at_start, free_count, pages_needed}
+use Rattle.mt_chunkstore.specs.Changes.{AreChanged, AreThere, IsThere, all_needed, free_at_start, free_count, pages_needed}
 use Rattle.mt_chunkstore.proofs.Needed.{new_keys-append, new_keys_upto, one_larger, page_wanted, pages_exact, pages_together, pages_wanted}
 
-there_then : (changes more : List Change) (rows : Content) (catalogue : Catalogue) → AreThere (changes ++ more) rows catalogue → AreThere more (applied changes rows) (catalogue_applied changes catalogue)
+pub there_then : (changes more : List Change) (rows : Content) (catalogue : Catalogue) → AreThere (changes ++ more) rows catalogue → AreThere more (applied changes rows) (catalogue_applied changes catalogue)
 there_then [] more rows catalogue there = there
 there_then (change ∷ changes) more rows catalogue there = there_then changes more (applied_by change rows) (catalogue_applied_by change catalogue) there.1
 
@@ -46,10 +45,10 @@ module _ (known : KnownLayouts) (count : ℕ) (area : Area) (start : ℕ → ℕ
   none_lost (RemoveCat table body) there lost = let h = body_lacked (table, body) lost in cc
 
   -- a slot that a change puts where none stands is new
-  new_row : (table : ℕ) (slot : SlotRow) → finite.get group.places.rows (key_in table slot) ≡ Some None → is_new (Put table slot) (applied changes (rows_of known area)) (catalogue_applied changes (catalogue_of known area)) ≡ true
+  pub new_row : (table : ℕ) (slot : SlotRow) → finite.get group.places.rows (key_in table slot) ≡ Some None → is_new (Put table slot) (applied changes (rows_of known area)) (catalogue_applied changes (catalogue_of known area)) ≡ true
   new_row table slot none = ap (λ found. not (is_some found)) (row_lacked (key_in table slot) none)
 
-  new_body : (table : ℕ) (body : List ℕ) → finite.get group.places.bodies (table, body) ≡ Some None → is_new (PutCat table body) (applied changes (rows_of known area)) (catalogue_applied changes (catalogue_of known area)) ≡ true
+  pub new_body : (table : ℕ) (body : List ℕ) → finite.get group.places.bodies (table, body) ≡ Some None → is_new (PutCat table body) (applied changes (rows_of known area)) (catalogue_applied changes (catalogue_of known area)) ≡ true
   new_body table body none = ap (λ found. not (is_some found)) (body_lacked (table, body) none)
 
   -- A page that a change needs is among those that all changes need.

@@ -27,7 +27,7 @@ counts_looked {count} counts looks = record {
 }
 
 -- a stretch that changes neither area leaves the store standing
-stands_still : (store : Store) (old new : Meaning) → Stands store old → Looks old new → Stands store new
+pub stands_still : (store : Store) (old new : Meaning) → Stands store old → Looks old new → Stands store new
 stands_still store old new stands looks = record {
   journal = stands_after_looks stands.journal looks;
   pages = counts_looked stands.pages looks;

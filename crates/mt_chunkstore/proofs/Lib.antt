@@ -1,4 +1,5 @@
 pub mod AllPages
+pub mod Asked
 pub mod Begun
 pub mod Chosen
 pub mod Committing
@@ -8,6 +9,9 @@ pub mod Looking
 pub mod Needed
 pub mod OnePage
 pub mod Opening
+pub mod Refused
 pub mod Slots
 pub mod Surveying
+pub mod Stages
+pub mod Taken
 pub mod Walked

@@ -1,7 +1,7 @@
 -- A look through the pages from page 1 on, which passes over those of tables that no change names.
-use Rattle.std.proofs.Common.{◌≡◌, ◌≢◌, ℕ, zero, suc, ◌+◌, ◌-◌, ◌*◌, ◌<◌, ◌≤◌, ◌&&◌, ◌||◌, Bool, true, false, cond, nat_eq, List, [], ◌∷◌, ◌++◌, length, map, flat_map, take, Option, None, Some, refl, sym, ap, subst, ◌∙◌, arith}
-use Rattle.std.specs.Prelude.{filter_map, count_by, is_some}
-use Rattle.std.specs.List.{list_any, range_with_len, cons_option}
+use Rattle.std.proofs.Common.{◌≡◌, ◌≢◌, ℕ, zero, suc, ◌+◌, ◌-◌, ◌*◌, ◌≤◌, ◌&&◌, ◌||◌, Bool, true, false, cond, nat_eq, List, [], ◌∷◌, ◌++◌, map, take, Option, None, Some, refl, sym, ap, ◌∙◌, arith}
+use Rattle.std.specs.Prelude.{filter_map, count_by}
+use Rattle.std.specs.List.{list_any, cons_option}
 use Rattle.std.specs.Ordering.{eq_by_cmp}
 use Rattle.std.specs.declared.cmp.Ordering.{Ordering}
 use Rattle.std.specs.Cmp.{IsTotalOrder}
@@ -14,13 +14,10 @@ use Rattle.mt_journal.specs.Layout.{Area}
 use Rattle.mt_physplan.specs.declared.change.Change.{Change}
 use Rattle.mt_physplan.specs.declared.change.Change.TheVariants.{Put, Mark, Remove, PutCat, RemoveCat}
 use Rattle.mt_physplan.specs.declared.key.Key.{Key}
-use Rattle.mt_physplan.specs.Applied.{body_cmp}
-use Rattle.mt_physplan.specs.Keys.{key_cmp}
 use Rattle.mt_physplan.proofs.Keys.{keys_exact, keys_total}
 use Rattle.mt_tables.specs.Pages.{SlotSizes, bytes_at, page_places, places_below, table_at}
 use Rattle.mt_tables.specs.Plan.{PlacedSlot, free_in, placed, placed_in, sought}
 use Rattle.mt_tables.specs.Rows.{KnownLayouts, body_in, row_in, sizes_of}
-use Rattle.mt_tables.specs.Tables.{TableSlot}
 use Rattle.mt_tables.proofs.Bodies.{bodies_exact, bodies_total}
 use Rattle.mt_tables.proofs.OneSlot.{tied_are_one}
 use Rattle.mt_tables.proofs.PageSlots.{placed_page}
@@ -176,7 +173,6 @@ module _ {K : Type 0} {R : K → K → Ordering} (o : IsTotalOrder R) (exact : f
               absurd (other_table change table other (sym (of_table change k named) ∙ ap key_table (sym same) ∙ is))
           inner false tied = finite.get-insert o (asked changes) k None key ∙ ap (λ t. cond t (Some None) (finite.get (asked changes) key)) tied ∙ rest
 
-
   -- none has a place yet
   pub no_place : (changes : List Change) (key : K) (position : ℕ) → finite.get (asked changes) key ≡ Some (Some position) → ⊥
   no_place [] key position there = none_some (Some position) (sym (finite.get-empty R key) ∙ there)
@@ -202,11 +198,11 @@ walked_past known area n changes begun places some start none is =
     record {
       rows = is.rows
           ∙ sym (sought_elsewhere (row_in known) (λ key. key.table) (row_of_table known) table more (sought (row_in known) before begun.rows) (placed_of_table sizes table n (bytes_at area (4096 * n) 4096))
-            (λ key of. sought_lacks (row_in known) keys_total keys_exact before begun.rows key (ap (λ rows. finite.get rows key) start.rows ∙ not_asked keys_total keys_exact row_key (λ key. key.table) row_table changes table none key of)))
+          (λ key of. sought_lacks (row_in known) keys_total keys_exact before begun.rows key (ap (λ rows. finite.get rows key) start.rows ∙ not_asked keys_total keys_exact row_key (λ key. key.table) row_table changes table none key of)))
           ∙ sym (sought_then (row_in known) before more begun.rows) ∙ ap (λ slots. sought (row_in known) slots begun.rows) (sym grown);
       bodies = is.bodies
           ∙ sym (sought_elsewhere body_in (λ key. key.0) body_of_table table more (sought body_in before begun.bodies) (placed_of_table sizes table n (bytes_at area (4096 * n) 4096))
-            (λ key of. sought_lacks body_in bodies_total bodies_exact before begun.bodies key (ap (λ bodies. finite.get bodies key) start.bodies ∙ not_asked bodies_total bodies_exact body_key (λ key. key.0) body_table changes table none key of)))
+          (λ key of. sought_lacks body_in bodies_total bodies_exact before begun.bodies key (ap (λ bodies. finite.get bodies key) start.bodies ∙ not_asked bodies_total bodies_exact body_key (λ key. key.0) body_table changes table none key of)))
           ∙ sym (sought_then body_in before more begun.bodies) ∙ ap (λ slots. sought body_in slots begun.bodies) (sym grown);
       free = λ t. is.free t ∙ by t (nat_eq t table) refl ∙ ap (λ slots. take (begun.wanted t) (free_in t slots)) (sym grown);
       wanted = is.wanted;
@@ -215,8 +211,10 @@ walked_past known area n changes begun places some start none is =
   where
     sizes : SlotSizes
     sizes = sizes_of known
+
     before : List PlacedSlot
     before = placed sizes area (places_below sizes n area)
+
     more : List PlacedSlot
     more = placed_in sizes (table_at area n) n (bytes_at area (4096 * n) 4096)
 

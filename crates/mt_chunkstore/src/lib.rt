@@ -7,6 +7,7 @@ mod commit;
 mod lent;
 mod page_scan;
 mod sizes;
+mod stage;
 mod store;
 mod survey;
 mod table_scan;
@@ -14,6 +15,7 @@ mod table_scan;
 pub use commit::Staged;
 pub use lent::Lent;
 pub use sizes::{Sizes, TableSize};
+pub use stage::Staged;
 pub use store::{Store, StoreFault};
 
 #[cfg(test)]
