@@ -10,18 +10,12 @@ ghost use Rattle.mt_staging.specs.States.{group_of};
 ghost use Rattle.mt_chunkstore.specs.Staged.{Allowed, IsCommitted, IsStaged, StopsWhole};
 ghost use Rattle.mt_chunkstore.specs.Standing.{Stands, used_after};
 
-use crate::Store;
 use crate::survey::TABLES;
+use crate::{Staged, Store};
 use mt_directory::Directory;
 use mt_journal::{Body, Journal};
 use mt_machine::{Failed, Machine};
 use mt_staging::Group;
-
-/// What a commit makes of a store: a group of ranges, chosen for changes.
-#[derive(Debug, Drop)]
-pub struct Staged {
-    pub(crate) group: Group,
-}
 
 impl Store {
     /// Commits what was staged: at Ok the changes are made, and each stop from then on leaves them. A

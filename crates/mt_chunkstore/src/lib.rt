@@ -1,6 +1,8 @@
 //! The store: the physical tables on the pages of a disk, behind the journal. It promises that a store
-//! that was opened knows the table of each page and the slots in use of each table, and that a scan
-//! gives the slots that it asks for in order of Row and looks at no page of another table.
+//! that was opened knows the table of each page and the slots in use of each table; that a scan gives
+//! the slots that it asks for in order of Row and looks at no page of another table; and that a commit
+//! makes the changes that were staged, whole or not at all, with new keys in free slots first and no
+//! more new pages than the rest needs.
 #![tactic(auto)]
 
 mod commit;
@@ -12,7 +14,6 @@ mod store;
 mod survey;
 mod table_scan;
 
-pub use commit::Staged;
 pub use lent::Lent;
 pub use sizes::{Sizes, TableSize};
 pub use stage::Staged;
