@@ -36,7 +36,7 @@ stands_kept store after old new journal pages layouts tables used before looks =
       sized = rw (tables, pages) stands.sized;
       known = rw layouts stands.known;
       directory = λ tells. rw (tables, pages) (stands.directory tells);
-      used = λ tells table. rw (used, layouts, pages) (stands.used tells table);
+      used = λ tells table few. rw (used, layouts, pages) (stands.used tells table few);
     }
 
 -- what was found begins as a group of no changes
