@@ -1,4 +1,4 @@
-ghost use Rattle.std.specs.Prelude.{◌≡◌, ◌⊎◌, ◌<◌, ◌≤◌, ◌*◌, ◌^◌, nat_eq, None, count_by, IfOk, OnOk, OnErr, IsTrue, IsErrOf};
+ghost use Rattle.std.specs.Prelude.{◌≡◌, ◌<◌, ◌≤◌, ◌*◌, IfOk, OnOk, OnErr, IsTrue, IsErrOf};
 ghost use Rattle.mt_machine.specs.Calls.{HasCause};
 ghost use Rattle.mt_machine.specs.Leaves.{Leaves, Looks};
 ghost use Rattle.mt_machine.specs.declared.machine.Area.TheVariants as areas;
@@ -204,8 +204,9 @@ impl Store {
         }
     }
 
-    /// Makes the layout of a conventional table known, and counts its slots in use by it. `Disk` is a
-    /// read that failed, `Memory` want of memory; after both the store is as it was.
+    /// Makes the layout of a conventional table known, in the place of one that was, and counts the
+    /// table's slots in use by it. `Disk` is a read that failed, and leaves the store as it was; it
+    /// takes no memory.
     pub fn add_layout<M: Machine>(
         &mut self,
         m: &mut M,
@@ -217,7 +218,6 @@ impl Store {
         requires upto { table ≤ 31 }
         requires head { layout.head ≡ Conventional }
         requires sound { IsLayout layout }
-        requires new { (known_in self.old.layouts table ≡ None) ⊎ (count_by (nat_eq table) self.old.directory.tables ≡ 0) }
         ensures stands { Stands self.new (M.meaning m.new) }
         ensures layouts { OnOk result (known_in self.new.layouts ≡ with_layout table layout (known_in self.old.layouts)) }
         ensures journal { self.new.journal ≡ self.old.journal }
