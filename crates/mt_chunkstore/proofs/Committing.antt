@@ -30,7 +30,8 @@ use Rattle.mt_staging.specs.Group.{GroupState, IsGroup, pages_of}
 use Rattle.mt_chunkstore.specs.declared.store.Store.{Store}
 use Rattle.mt_chunkstore.specs.Changes.{AreChanged, free_at_start, free_count}
 use Rattle.mt_chunkstore.specs.Staged.{Allowed, IsCommitted, IsStaged, StopsWhole}
-use Rattle.mt_chunkstore.specs.Standing.{Stands, used_after, used_in}
+use Rattle.mt_staging.specs.Group.{used_in}
+use Rattle.mt_chunkstore.specs.Standing.{Stands, used_after}
 use Rattle.mt_chunkstore.proofs.InUse.{slots_few}
 use Rattle.mt_chunkstore.proofs.Chosen.{all_made, group_changed, group_listed, group_sound}
 

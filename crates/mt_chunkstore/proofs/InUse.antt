@@ -22,7 +22,7 @@ use Rattle.mt_tables.proofs.PageSlots.{page_slots}
 use Rattle.mt_tables.proofs.Sizes.{sizes_sound}
 use Rattle.mt_directory.specs.Directory.{directory_of, listed_table}
 use Rattle.mt_chunkstore.specs.Found.{used_by, used_on}
-use Rattle.mt_chunkstore.specs.Standing.{used_in}
+use Rattle.mt_staging.specs.Group.{used_in}
 
 -- whether a slot of a table is in use
 abbrev pub is_used : ℕ → TableSlot → Bool

@@ -17,7 +17,8 @@ use Rattle.mt_pages.specs.Standing.{Counts}
 use Rattle.mt_directory.specs.Directory.{directory_of}
 use Rattle.mt_directory.specs.Known.{known_in, with_layout}
 use Rattle.mt_chunkstore.specs.declared.store.Store.{Store}
-use Rattle.mt_chunkstore.specs.Standing.{SameStore, Stands, used_in}
+use Rattle.mt_staging.specs.Group.{used_in}
+use Rattle.mt_chunkstore.specs.Standing.{SameStore, Stands}
 use Rattle.mt_chunkstore.proofs.InUse.{used_elsewhere}
 
 pub counts_looked : {count : ℕ} {old new : Meaning} → Counts count old → Looks old new → Counts count new

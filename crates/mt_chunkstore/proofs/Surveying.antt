@@ -12,7 +12,7 @@ use Rattle.mt_tables.specs.Pages.{bytes_at, table_at}
 use Rattle.mt_tables.specs.Rows.{KnownLayouts, layout_of, sizes_of}
 use Rattle.mt_directory.specs.Directory.{directory_of, listed_table}
 use Rattle.mt_chunkstore.specs.Found.{Surveyed, used_by, used_on}
-use Rattle.mt_chunkstore.specs.Standing.{used_in}
+use Rattle.mt_staging.specs.Group.{used_in}
 use Rattle.mt_chunkstore.proofs.InUse.{directory_at, directory_more, few_on, page_table, used_more}
 
 -- no page was read

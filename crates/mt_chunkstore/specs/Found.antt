@@ -10,7 +10,7 @@ use Rattle.mt_physplan.specs.declared.phys.PhysFault.{PhysFault}
 use Rattle.mt_physplan.specs.declared.phys.PhysFault.TheVariants as faults
 use Rattle.mt_tables.specs.Rows.{KnownLayouts, layout_of, sizes_of}
 use Rattle.mt_directory.specs.Directory.{directory_of}
-use Rattle.mt_chunkstore.specs.Standing.{used_in}
+use Rattle.mt_staging.specs.Group.{used_in}
 
 -- the slots in use of a page with this layout; none where none is known
 abbrev pub used_by : Option Layout → List ℕ → ℕ

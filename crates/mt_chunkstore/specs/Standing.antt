@@ -12,12 +12,9 @@ use Rattle.mt_tables.specs.Tables.{slots_below}
 use Rattle.mt_pages.specs.Standing.{Counts}
 use Rattle.mt_directory.specs.Directory.{directory_of}
 use Rattle.mt_directory.specs.Known.{known_in}
+use Rattle.mt_staging.specs.Group.{used_in}
 use Rattle.mt_chunkstore.specs.declared.sizes.TableSize.{TableSize}
 use Rattle.mt_chunkstore.specs.declared.store.Store.{Store}
-
--- how many slots of a table are in use in the pages below a number
-abbrev pub used_in : SlotSizes → ℕ → ℕ → Area → ℕ
-used_in sizes table count area = count_by (λ slot. nat_eq slot.0 table && not (is_free slot.1)) (slots_below sizes count area)
 
 -- The store stands for the machine: its journal does, its pages are counted as page 0 says, its
 -- directory has the table of each page, and its counts are those of the slots in use.

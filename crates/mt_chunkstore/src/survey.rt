@@ -8,7 +8,7 @@ ghost use Rattle.mt_tables.specs.Rows.{KnownLayouts, layout_of, sizes_of};
 ghost use Rattle.mt_directory.specs.Directory.{directory_of, listed_table};
 ghost use Rattle.mt_directory.specs.Known.{known_in};
 ghost use Rattle.mt_chunkstore.specs.Found.{FoundCause, Surveyed, used_by, used_on};
-ghost use Rattle.mt_chunkstore.specs.Standing.{used_in};
+ghost use Rattle.mt_staging.specs.Group.{used_in};
 
 use byteorder::{ByteOrder, LittleEndian};
 use mt_directory::{Directory, Layouts};

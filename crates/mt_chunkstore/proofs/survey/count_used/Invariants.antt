@@ -2,7 +2,7 @@ use Rattle.std.proofs.Common.{◌≡◌, ◌*◌, ◌≤◌, IsTrue, Some}
 use Rattle.mt_machine.specs.Leaves.{Looks}
 use Rattle.mt_machine.specs.declared.machine.Area.TheVariants as areas
 use Rattle.mt_tables.specs.Rows.{KnownLayouts, layout_of, sizes_of}
-use Rattle.mt_chunkstore.specs.Standing.{used_in}
+use Rattle.mt_staging.specs.Group.{used_in}
 use Rattle.mt_chunkstore.proofs.survey.count_used.Given as goal
 
 -- the slots in use of the pages below n were counted
