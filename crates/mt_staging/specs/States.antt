@@ -5,6 +5,7 @@ use Rattle.mt_places.specs.Places.{PlacesState}
 use Rattle.mt_staging.specs.declared.group.Group.{Group}
 use Rattle.mt_staging.specs.Group.{GroupState}
 
+-- the group as contracts speak of it
 abbrev pub group_of : Group → GroupState
 group_of group = record {
   ranges = group.body;

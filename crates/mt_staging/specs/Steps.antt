@@ -56,10 +56,11 @@ with_free free group = with_places (record {
   wanted = group.places.wanted;
 }) group
 
--- a slot more of a table was taken, or freed
+-- a slot more of a table was taken
 abbrev pub one_taken : ℕ → GroupState → GroupState
 one_taken table group = record { ranges = group.ranges; places = group.places; added = group.added; taken = one_more_of table group.taken; freed = group.freed }
 
+-- a slot more of a table was freed
 abbrev pub one_freed : ℕ → GroupState → GroupState
 one_freed table group = record { ranges = group.ranges; places = group.places; added = group.added; taken = group.taken; freed = one_more_of table group.freed }
 
