@@ -1,6 +1,7 @@
 -- The puts suit the store, and it is ready again once they are committed.
 use Rattle.std.proofs.Common.{ap, ◌∙◌}
 use Rattle.mt_directory.specs.Known.{known_in}
+use Rattle.mt_store_bench.specs.Numbers.{IsSilent}
 use Rattle.mt_store_bench.proofs.Suited.{number_put_suits}
 use Rattle.mt_store_bench.proofs.put.put_group.Goals as goal
 
@@ -11,7 +12,8 @@ pub returns : goal.returns
 returns g c =
     let changes = c.args.changes.now in
     let staged = c.in_ok-staged.ensures.staged in
-    let silent = λ tells. c.requires.ready.silent (c.stage.ensures.looks.leaves.told tells) in
+    let meaning = g.M.Machine.meaning in
+    let silent : IsSilent (meaning c.stage.new.m) = λ tells. c.requires.ready.silent (c.stage.ensures.looks.leaves.told tells) in
     let committed = c.in_ok-commit.ensures.ok changes staged (λ tells. absurd (silent tells)) in
     let moments = c.commit.ensures.any_moment changes staged (λ tells. absurd (silent tells)) in
     record {
