@@ -1,4 +1,4 @@
-use Rattle.std.proofs.Common.{◌≤◌, All}
+use Rattle.std.proofs.Common.{◌≤◌, All, arith}
 use Rattle.mt_physplan.specs.declared.change.Change.{Change}
 use Rattle.mt_places.specs.Named.{table_of}
 use Rattle.mt_staging.specs.Group.{IsAsked, Suits}
@@ -14,3 +14,10 @@ add-requires-clause-table c = all_at (λ (change : Change). table_of change ≤ 
 
 pub add-requires-clause-asked : goal.add-requires-clause-asked
 add-requires-clause-asked c = all_at (λ (change : Change). IsAsked change (group_of c.loop-i.group).places) c.args.changes.now c.loop-i.i c.get.result.now c.loop-i.invariant.asked c.get.ensures
+
+-- what is asked for stays so, and a change adds three ranges at most
+pub loop-i-preserved : goal.loop-i-preserved
+loop-i-preserved c = record {
+  asked = λ k d within. c.in_ok-add.ensures.asked _ (c.loop-i.invariant.asked k d within);
+  few = (let grown = c.in_ok-add.ensures.few in let so_far = c.loop-i.invariant.few in omega arith);
+}
