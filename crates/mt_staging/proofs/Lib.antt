@@ -1,4 +1,5 @@
 pub mod Adds
+pub mod Asked
 pub mod Counting
 pub mod Effects
 pub mod Finding

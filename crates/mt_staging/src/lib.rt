@@ -10,3 +10,6 @@ mod parts;
 
 pub use fault::StageFault;
 pub use group::Group;
+
+#[cfg(test)]
+mod tests;
