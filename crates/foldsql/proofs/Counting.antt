@@ -4,7 +4,7 @@ use Rattle.std.specs.Prelude.{IsTrue, min}
 use Rattle.std.proofs.lemmas.List.{length-append}
 use Rattle.mt_machine.specs.Meaning.{Meaning, Supply, Rose}
 use Rattle.mt_machine.specs.Calls.{Emits}
-use Rattle.mt_machine.specs.Keeps.{DiskMayFail}
+use Rattle.mt_machine.specs.Keeps.{DiskMayFail, MayFail}
 use Rattle.mt_script.specs.Lines.{Line}
 use Rattle.mt_script.specs.declared.reader.Took.{Took}
 use Rattle.mt_script.specs.declared.reader.ReadStop.{ReadStop}
@@ -40,7 +40,7 @@ machine_join ends first second third a b =
       told = λ t. a.told (b.told t);
       emits = subst (λ (n : ℕ). Counts (ends ≡ Some EmitFault) n third.emit_faults) emits b.emits;
       disk = le_trans a.disk b.disk;
-      disk_failed = λ f. subst (λ (n : ℕ). Rose n third.disk_faults ⊎ (IsTrue third.tells → ⊥)) disk (b.disk_failed f);
+      disk_failed = λ f. subst (λ (n : ℕ). MayFail (IsTrue third.tells) n third.disk_faults) disk (b.disk_failed f);
       disk_stood = λ f. b.disk_stood f ∙ disk;
     }
 

@@ -77,7 +77,7 @@ listed_more tables new before added i table is pushed so_far =
 per_page : (known : KnownLayouts) (table : ℕ) → (sizes_of known).count table ≤ 4088
 per_page known table = by (layout_of known table)
   where
-    by : (layout : Option Layout) → layouts.count_by layout ≤ 4088
+    by : (layout : Option Layout) → layouts.slot_count_by layout ≤ 4088
     by None = omega arith
     by (Some layout) = slots_few layout
 

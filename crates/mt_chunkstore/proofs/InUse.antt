@@ -60,7 +60,7 @@ count_used slots =
     omega (arith, both, counted)
 
 -- the slots of a page that are in use with a layout
-used_marks : (found : Option Layout) (page : List ℕ) → count_by (λ slot. not (is_free slot)) (slots_in (width_by found) (rows.count_by found) (drop 8 page)) ≡ used_by found page
+used_marks : (found : Option Layout) (page : List ℕ) → count_by (λ slot. not (is_free slot)) (slots_in (width_by found) (rows.slot_count_by found) (drop 8 page)) ≡ used_by found page
 used_marks None page = refl
 used_marks (Some layout) page =
     let slots = slots_in (slot_width layout) (slots_per_page layout) (drop 8 page) in
@@ -85,7 +85,7 @@ module _ (known : KnownLayouts) (t : ℕ) (area : Area) where
   page_used n =
       let table = table_at area n in
       let page = bytes_at area (4096 * n) 4096 in
-      let slots = slots_in (width_by (layout_of known table)) (rows.count_by (layout_of known table)) (drop 8 page) in
+      let slots = slots_in (width_by (layout_of known table)) (rows.slot_count_by (layout_of known table)) (drop 8 page) in
       let same : nat_eq table t ≡ true → table ≡ t = λ is. grind (arith, nat_tests, is) in
       ap (count_by (is_used t)) (page_slots (sizes_of known) area n ((sizes_sound known).within table))
       ∙ count_marks table t (nat_eq table t) refl slots

@@ -10,7 +10,7 @@ use Rattle.mt_physplan.specs.declared.key.Key.{Key}
 use Rattle.mt_physplan.specs.declared.scan.Scan.{Scan}
 use Rattle.mt_physplan.specs.Content.{Content, in_scan}
 use Rattle.mt_tables.specs.Pages.{bytes_at, table_at}
-use Rattle.mt_tables.specs.Rows.{KnownLayouts, count_by, layout_of, row_in, sizes_of, width_by}
+use Rattle.mt_tables.specs.Rows.{KnownLayouts, layout_of, row_in, sizes_of, slot_count_by, width_by}
 use Rattle.mt_tables.specs.Tables.{TableSlot, slot_at}
 use Rattle.mt_tables.proofs.PageSlots.{page_slots, pages_slots, slots_of_table, walk_elsewhere, walk_then}
 use Rattle.mt_tables.proofs.Places.{pages_places}
@@ -30,8 +30,8 @@ slots_by_layout known area table n layout of_table is =
     let sizes = sizes_of known in
     let body = drop 8 (bytes_at area (4096 * n) 4096) in
     page_slots sizes area n ((sizes_sound known).within (table_at area n))
-    ∙ ap (λ t. map (λ bytes. (t, bytes)) (slots_in (width_by (layout_of known t)) (count_by (layout_of known t)) body)) of_table
-    ∙ ap (λ f. map (λ bytes. (table, bytes)) (slots_in (width_by f) (count_by f) body)) is
+    ∙ ap (λ t. map (λ bytes. (t, bytes)) (slots_in (width_by (layout_of known t)) (slot_count_by (layout_of known t)) body)) of_table
+    ∙ ap (λ f. map (λ bytes. (table, bytes)) (slots_in (width_by f) (slot_count_by f) body)) is
 
 -- the directory has the table of each page, up to 31
 pub listed_is : (area : Area) (count n : ℕ) → 1 ≤ n → n < count → slice_index (directory_of count area) (n - 1) ≡ listed_table (table_at area n)

@@ -8,7 +8,7 @@ use Rattle.mt_rowfile.specs.Layouts.{IsLayout, slot_width, slots_per_page}
 use Rattle.mt_physplan.specs.declared.change.Change.{Change}
 use Rattle.mt_physplan.specs.declared.change.Change.TheVariants.{Put, Mark, Remove, PutCat, RemoveCat}
 use Rattle.mt_physplan.specs.Applied.{applied, catalogue_applied}
-use Rattle.mt_tables.specs.Rows.{KnownLayouts, catalogue_of, count_by, layout_of, rows_of, sizes_of}
+use Rattle.mt_tables.specs.Rows.{KnownLayouts, catalogue_of, layout_of, rows_of, sizes_of, slot_count_by}
 use Rattle.mt_places.specs.Named.{table_of}
 use Rattle.mt_places.specs.Places.{PlacesState}
 use Rattle.mt_staging.specs.Group.{GroupState, IsGroup, IsLost, NeedsPage, Suits, is_new}
@@ -25,10 +25,10 @@ catalogue_room layout table sound head =
 
 -- a page that is wanted for a slot has room for it
 pub page_room : (known : KnownLayouts) (layout : Layout) (change : Change) (places : PlacesState) → layout_of known (table_of change) ≡ Some layout → IsLayout layout → Suits layout change → NeedsPage change places → 1 ≤ (sizes_of known).count (table_of change)
-page_room known layout (Put table slot) places is sound suits needs = subst (λ found. 1 ≤ count_by found) (sym is) suits.2
+page_room known layout (Put table slot) places is sound suits needs = subst (λ found. 1 ≤ slot_count_by found) (sym is) suits.2
 page_room known layout (Mark table tenant row mark) places is sound suits needs = absurd needs
 page_room known layout (Remove table tenant base chunk row) places is sound suits needs = absurd needs
-page_room known layout (PutCat table body) places is sound suits needs = subst (λ found. 1 ≤ count_by found) (sym is) (catalogue_room layout table sound suits.0)
+page_room known layout (PutCat table body) places is sound suits needs = subst (λ found. 1 ≤ slot_count_by found) (sym is) (catalogue_room layout table sound suits.0)
 page_room known layout (RemoveCat table body) places is sound suits needs = absurd needs
 
 -- why a change is refused: what it marks or removes does not stand, or no page more may be made

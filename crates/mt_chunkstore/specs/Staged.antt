@@ -1,7 +1,8 @@
 -- What a store stages, and what a commit of it leaves.
 use Rattle.std.specs.Prelude.{◌≡◌, ℕ, ◌+◌, ◌^◌, ◌≤◌, IsTrue, List, length, All, Result, Ok, Err}
 use Rattle.mt_machine.specs.declared.machine.Area.TheVariants.{Pages}
-use Rattle.mt_machine.specs.Meaning.{Disk, Meaning, Rose}
+use Rattle.mt_machine.specs.Keeps.{MayFail}
+use Rattle.mt_machine.specs.Meaning.{Disk, Meaning}
 use Rattle.mt_journal.specs.Commits.{payload_size}
 use Rattle.mt_physplan.specs.declared.change.Change.{Change}
 use Rattle.mt_tables.specs.Rows.{ArePages, KnownLayouts}
@@ -24,7 +25,7 @@ pub record IsStaged (changes : List Change) (group : GroupState) (store : Store)
 -- a fault of the device is answered only where one was counted, or the pages cannot be changed so
 abbrev pub StageCause : {T : Type 0} → Result T StageFault → KnownLayouts → List Change → ℕ → Meaning → Meaning → Type 0
 StageCause (Ok staged) known changes count old new = new.disk_faults ≡ old.disk_faults
-StageCause (Err faults.Disk) known changes count old new = IsTrue new.tells → MayChange known changes count (old.content Pages) → Rose old.disk_faults new.disk_faults
+StageCause (Err faults.Disk) known changes count old new = MayFail (IsTrue new.tells × MayChange known changes count (old.content Pages)) old.disk_faults new.disk_faults
 StageCause (Err faults.Memory) known changes count old new = new.disk_faults ≡ old.disk_faults
 
 -- the changes may be made of the pages of a store, where its machine tells them

@@ -1,9 +1,10 @@
 ghost use Rattle.std.specs.Prelude.{◌≡◌, IfOk, IsTrue, IsErrOf};
+ghost use Rattle.mt_machine.specs.Keeps.{MayFail};
 ghost use Rattle.mt_machine.specs.Meaning.{Rose};
 ghost use Rattle.mt_machine.specs.Leaves.{Looks};
 ghost use Rattle.mt_machine.specs.declared.machine.Area.TheVariants as areas;
 ghost use Rattle.mt_physplan.specs.Content.{scanned};
-ghost use Rattle.mt_physplan.specs.Phys.{ScanMayFail, scanned_once};
+ghost use Rattle.mt_physplan.specs.Phys.{scanned_once};
 ghost use Rattle.mt_tables.specs.Rows.{ArePages, rows_of};
 ghost use Rattle.mt_directory.specs.Known.{known_in};
 ghost use Rattle.mt_chunkstore.specs.Standing.{SameStore, Stands};
@@ -28,7 +29,7 @@ fn scan_both<P: Phys>(
     ensures told { (P.meaning phys.new).tells → (P.meaning phys.old).tells }
     ensures content { (P.meaning phys.new).tells → (P.meaning phys.new).content ≡ (P.meaning phys.old).content }
     ensures counted { IfOk result (λ _. (P.meaning phys.new).scans ≡ scanned_once second.now.table (scanned_once first.now.table (P.meaning phys.old).scans)) }
-    ensures disk { IsErrOf result PhysFault.Disk → ScanMayFail (P.meaning phys.old) (P.meaning phys.new) }
+    ensures disk { IsErrOf result PhysFault.Disk → MayFail (P.meaning phys.new).tells (P.meaning phys.old).faults (P.meaning phys.new).faults }
     ensures kept { P.scanned phys.old phys.new }
 {
     let anchors = phys.scan(alloc, first)?;

@@ -89,6 +89,7 @@ impl<T> List<T> {
 
 impl<T: Drop> List<T> {
     /// Adds a member at the end. `AllocError` is want of memory, and leaves the list as it was.
+    #[inline(always)]
     pub fn push(&mut self, member: T) -> Result<(), AllocError>
         ensures ok { OnOk result (self.new ≡ self.old ++ member ∷ []) }
         ensures err { OnErr result (self.new ≡ self.old) }

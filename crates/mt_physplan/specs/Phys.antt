@@ -1,6 +1,5 @@
 -- What physical tables stand for, and what a scan does to that.
 use Rattle.std.specs.Prelude.{◌≡◌, ℕ, ◌≤◌, nat_eq, nat_le, ◌&&◌, if◌then◌else◌, IfOk, List, Result}
-use Rattle.mt_machine.specs.Meaning.{Rose}
 use Rattle.mt_machine.specs.Faults.{one_more}
 use Rattle.mt_rowfile.specs.declared.slot.SlotRow.{SlotRow}
 use Rattle.mt_physplan.specs.declared.scan.Scan.{Scan}
@@ -29,7 +28,3 @@ pub record Scans {E : Type 0} (result : Result (List SlotRow) E) (scan : Scan) (
   pub rows : IfOk result (λ rows. new.tells → rows ≡ scanned old.content scan)
   pub counted : new.scans ≡ scanned_once scan.table old.scans
   pub no_lower : old.faults ≤ new.faults
-
--- A fault of the device is answered only where the count of faults rose, or the content is not told.
-abbrev pub ScanMayFail : PhysMeaning → PhysMeaning → Type 0
-ScanMayFail old new = new.tells → Rose old.faults new.faults

@@ -1,5 +1,6 @@
 ghost use Rattle.std.specs.Prelude.{◌≡◌, IsErrOf};
-ghost use Rattle.mt_physplan.specs.Phys.{PhysMeaning, ScanMayFail, Scans};
+ghost use Rattle.mt_machine.specs.Keeps.{MayFail};
+ghost use Rattle.mt_physplan.specs.Phys.{PhysMeaning, Scans};
 
 use crate::Scan;
 use mt_machine::Failed;
@@ -57,7 +58,7 @@ pub trait Phys {
         requires ready { ready self.old }
         ensures ready { ready self.new }
         ensures effect { Scans result scan.now (meaning self.old) (meaning self.new) }
-        ensures disk { IsErrOf result PhysFault.Disk → ScanMayFail (meaning self.old) (meaning self.new) }
+        ensures disk { IsErrOf result PhysFault.Disk → MayFail (meaning self.new).tells (meaning self.old).faults (meaning self.new).faults }
         ensures kept { scanned self.old self.new };
 
     /// Tables are as they were before no scan.

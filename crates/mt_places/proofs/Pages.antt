@@ -54,7 +54,7 @@ module _ {K V : Type 0} {R : K → K → Ordering} (read : TableSlot → Option 
 -- the slots of a page by a layout that is known are those by the layout
 pub placed-known : (known : KnownLayouts) (table page : ℕ) (bytes : List ℕ) (layout : Layout) → layout_of known table ≡ Some layout
     → placed_in (sizes_of known) table page bytes ≡ slots_by layout table page bytes
-placed-known known table page bytes layout is = ap (λ (o : Option Layout). slots_from (rows.width_by o) table page 0 (rows.count_by o) (drop 8 bytes)) is
+placed-known known table page bytes layout is = ap (λ (o : Option Layout). slots_from (rows.width_by o) table page 0 (rows.slot_count_by o) (drop 8 bytes)) is
 
 -- a row by a layout that is known is one by the layout
 pub row-known : (known : KnownLayouts) (table : ℕ) (layout : Layout) → layout_of known table ≡ Some layout → (slot : List ℕ) → row_with layout (table, slot) ≡ row_in known (table, slot)

@@ -12,7 +12,7 @@ mod piece;
 mod production;
 mod reader;
 
-pub use digits::size_of;
+pub use digits::{integer_of, size_of};
 pub use fault::ReadFault;
 pub use literal::LiteralForm;
 pub use parse::ParseFault;

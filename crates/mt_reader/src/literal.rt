@@ -88,5 +88,5 @@ fn literal_text(alloc: Global, bytes: &[u8]) -> Result<Literal, AllocError>
     ensures { IfOk result (λ literal. literal ≡ Literal.Text (undoubled bytes.now)) }
 {
     let text = undoubled(alloc, bytes)?;
-    Ok(Literal::Text(text_of(alloc, text.as_slice())?))
+    Ok(Literal::Text(text_of(text)))
 }

@@ -1,17 +1,17 @@
-ghost use Rattle.std.specs.Prelude.{◌≡◌, ◌∷◌, [], map, drop, is_some, IfOk, IfSome, IfNone};
+ghost use Rattle.std.specs.Prelude.{◌≡◌, ◌∷◌, [], map, drop, is_some, option_map, IfOk, IfSome, IfNone};
 ghost use Rattle.std.specs.List.{AllPass};
 ghost use Rattle.std.specs.Str.{IsUtf8};
 ghost use Rattle.std.specs.Str.Parse.{digits_value};
 ghost use Rattle.mt_lexer.specs.Tokens.{Word, Sign, is_digit, lower};
 ghost use Rattle.mt_reader.specs.Pieces.{AreTokens, IsPiece, lexeme_at, lexeme_of};
 ghost use Rattle.mt_reader.specs.Descent.{after, name_of, number_of, is_end, end_of, begins_with_name, begins_with_word, first_symbol};
-ghost use Rattle.mt_reader.specs.Taken.{Skips, TakesExactly};
+ghost use Rattle.mt_reader.specs.Taken.{Skips, TakesAny, TakesExactly};
 
 use crate::ReadFault;
 use crate::piece::{Piece, piece_of};
 use mt_lexer::{Symbol, Token, is_reserved};
-use mt_value::{Str, StrFault};
-use std::alloc::{AllocError, Global};
+use mt_value::Str;
+use std::alloc::Global;
 use std::marker::Model;
 
 /// A reader of the tokens of a text, from left to right. Contracts see what is left as lexemes.
@@ -192,7 +192,22 @@ impl<'t> Reader<'t> {
         }
         self.skip();
         let name = word.to_ascii_lowercase(alloc)?;
-        Ok(text_of(alloc, name.as_slice())?)
+        Ok(text_of(name))
+    }
+
+    /// Takes a number, if it is the first piece, and gives its digits.
+    pub fn takes_number(&mut self) -> Option<&'t [u8]>
+        ensures taken { TakesAny (option_map (λ digits. digits_value 10 digits.now) result) self.old self.new (number_of self.old) }
+        ensures digits { IfSome result (λ digits. AllPass is_digit digits.now) }
+    {
+        let Some(first) = self.peek() else {
+            return None;
+        };
+        let Some(digits) = first.digits() else {
+            return None;
+        };
+        self.skip();
+        Some(digits)
     }
 
     /// Takes a number, and gives its digits.
@@ -200,25 +215,20 @@ impl<'t> Reader<'t> {
         ensures taken { TakesExactly result (λ digits. (digits_value 10 digits.now, self.new)) (number_of self.old) }
         ensures digits { IfOk result (λ digits. AllPass is_digit digits.now) }
     {
-        let Some(first) = self.peek() else {
+        let Some(digits) = self.takes_number() else {
             return Err(ReadFault::Unread);
         };
-        let Some(digits) = first.digits() else {
-            return Err(ReadFault::Unread);
-        };
-        self.skip();
         Ok(digits)
     }
 }
 
 /// The text of these bytes.
-pub fn text_of(alloc: Global, bytes: &[u8]) -> Result<Str, AllocError>
-    requires { IsUtf8 bytes.now }
-    ensures { IfOk result (λ text. text ≡ bytes.now) }
+pub fn text_of(bytes: Vec<u8>) -> Str
+    requires { IsUtf8 bytes.items }
+    ensures { result ≡ bytes.items }
 {
-    match Str::from_bytes(alloc, bytes) {
-        Ok(text) => Ok(text),
-        Err(StrFault::Memory) => Err(AllocError),
-        Err(StrFault::NotUtf8) => unreachable!(),
+    match Str::from_vec(bytes) {
+        Some(text) => text,
+        None => unreachable!(),
     }
 }

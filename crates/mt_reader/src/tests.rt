@@ -1,4 +1,4 @@
-use crate::{LiteralForm, NameForm, ReadFault, Reader, bracketed, optional, separated};
+use crate::{LiteralForm, NameForm, ReadFault, Reader, bracketed, integer_of, optional, separated};
 use mt_lexer::{Symbol, tokens};
 use mt_tree::Literal;
 use std::alloc::{AllocError, Global};
@@ -96,5 +96,44 @@ fn reads_a_long_text(rt: HostRuntime) -> Result<(), Fail> {
     let got = reading(rt.alloc(), text.as_str())?;
     text.push_str(" ")?;
     assert_eq!(rt; got.as_str(), text.as_str());
+    Ok(())
+}
+
+/// The integer that a text begins with, if it begins with a number, and whether that is the whole.
+fn integer_first(alloc: Global, text: &str) -> Result<(Option<Option<i64>>, bool), Fail> {
+    let found = tokens(alloc, text)?;
+    let mut reader = Reader::new(text, found.as_slice());
+    let integer = match reader.takes_number() {
+        Some(digits) => Some(integer_of(digits)),
+        None => None,
+    };
+    Ok((integer, reader.is_at_end()))
+}
+
+#[test]
+fn takes_numbers(rt: HostRuntime) -> Result<(), Fail> {
+    let table = [
+        ("05", Some(Some(5)), true),
+        ("7 a", Some(Some(7)), false),
+        ("9223372036854775807", Some(Some(i64::MAX)), true),
+        ("9223372036854775808", Some(None), true),
+        ("a", None, false),
+        ("", None, true),
+    ];
+    for (text, integer, whole) in table {
+        assert_eq!(rt;
+            integer_first(rt.alloc(), text)?,
+            (integer, whole),
+            "of {text}"
+        );
+    }
+    let mut text = String::new(rt.alloc());
+    for _ in 0..65_535 {
+        text.push_str("9")?;
+    }
+    assert_eq!(rt;
+        integer_first(rt.alloc(), text.as_str())?,
+        (Some(None), true)
+    );
     Ok(())
 }

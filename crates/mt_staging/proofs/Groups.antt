@@ -161,7 +161,7 @@ module _ (known : KnownLayouts) (layout : Layout) (table : ℕ) (found : layout_
           let one : nat_eq table t ≡ true = same_number table t ∙ e in
           let long = length-append (free t) (map (slot_position (slot_width layout) page) (range_with_len 0 (slots_per_page layout))) in
           let size = length-map-range_with_len (slot_position (slot_width layout) page) 0 (slots_per_page layout) in
-          let number : (sizes_of known).count t ≡ slots_per_page layout = ap (sizes_of known).count same ∙ ap layouts.count_by found in
+          let number : (sizes_of known).count t ≡ slots_per_page layout = ap (sizes_of known).count same ∙ ap layouts.slot_count_by found in
           rw one (omega (arith, long, size, number))
       by false e = let none : nat_eq table t ≡ false = same_number table t ∙ e in rw none (omega arith)
 

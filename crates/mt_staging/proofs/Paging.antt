@@ -41,7 +41,7 @@ zero_first (suc n) = refl
 -- the free positions of a page, by the layout that is known
 pub page_free : (known : KnownLayouts) (layout : Layout) (table page : ℕ) (free : ℕ → List ℕ) → layout_of known table ≡ Some layout → with_page (sizes_of known) table page free ≡ with_free_page layout table page free
 page_free known layout table page free found =
-    λ i t. cond (nat_eq t table) (free t ++ map (slot_position (width_by (found i)) page) (range_with_len 0 (layouts.count_by (found i)))) (free t)
+    λ i t. cond (nat_eq t table) (free t ++ map (slot_position (width_by (found i)) page) (range_with_len 0 (layouts.slot_count_by (found i)))) (free t)
 
 -- a blank slot can be read, since it is free
 blank_readable : (found : Option Layout) → IfSome found (λ layout. IsSlot layout (replicate (width_by found) 0))

@@ -11,7 +11,7 @@ use Rattle.mt_rowfile.specs.Slots.{IsSlot}
 use Rattle.mt_physplan.specs.declared.key.Cell.{Cell}
 use Rattle.mt_physplan.specs.declared.key.Key.{Key}
 use Rattle.mt_tables.specs.Pages.{SlotSizes, bytes_at, page_count, page_places, table_at}
-use Rattle.mt_tables.specs.Rows.{ArePages, IsReadableSlot, KnownLayouts, body_in, count_by, is_of_catalogue, layout_of, row_by, row_in, row_under, sizes_of, width_by}
+use Rattle.mt_tables.specs.Rows.{ArePages, IsReadableSlot, KnownLayouts, body_in, is_of_catalogue, layout_of, row_by, row_in, row_under, sizes_of, slot_count_by, width_by}
 use Rattle.mt_tables.specs.Tables.{TableSlot, slot_at}
 use Rattle.mt_tables.proofs.PageSlots.{page_slots, pages_slots}
 use Rattle.mt_tables.proofs.Places.{pages_places}
@@ -119,4 +119,4 @@ readable_page known pages page layout sound low high found =
     let one : All (IsReadableSlot known) (map (slot_at sizes pages) (page_places sizes pages page)) = all_of_page (IsReadableSlot known) sizes pages 1 (page_count pages - 1) page low (omega (arith, low, high)) sound.readable in
     let parts : All (λ slot. IsReadableSlot known (table, slot)) (slots_in (sizes.width table) (sizes.count table) (drop 8 bytes)) =
     slots_apart (IsReadableSlot known) table (slots_in (sizes.width table) (sizes.count table) (drop 8 bytes)) (subst (All (IsReadableSlot known)) (page_slots sizes pages page ((sizes_sound known).within table)) one) in
-    subst (λ f. All (λ slot. IfSome f (λ layout. IsSlot layout slot)) (slots_in (width_by f) (count_by f) (drop 8 bytes))) found parts
+    subst (λ f. All (λ slot. IfSome f (λ layout. IsSlot layout slot)) (slots_in (width_by f) (slot_count_by f) (drop 8 bytes))) found parts

@@ -38,13 +38,13 @@ width_by None = 1
 width_by (Some layout) = slot_width layout
 
 -- the slots of a page; none where no layout is known
-abbrev pub count_by : Option Layout → ℕ
-count_by None = 0
-count_by (Some layout) = slots_per_page layout
+abbrev pub slot_count_by : Option Layout → ℕ
+slot_count_by None = 0
+slot_count_by (Some layout) = slots_per_page layout
 
 -- the sizes of all tables
 abbrev pub sizes_of : KnownLayouts → SlotSizes
-sizes_of known = record { width = λ table. width_by (layout_of known table); count = λ table. count_by (layout_of known table) }
+sizes_of known = record { width = λ table. width_by (layout_of known table); count = λ table. slot_count_by (layout_of known table) }
 
 -- the key and the rest of a slot in use with a layout of rows
 abbrev pub row_under : Head → Layout → ℕ → List ℕ → Option (Key × Cell)
@@ -57,9 +57,13 @@ abbrev pub row_by : Option Layout → ℕ → List ℕ → Option (Key × Cell)
 row_by None table bytes = None
 row_by (Some layout) table bytes = row_under layout.head layout table bytes
 
--- the row that a slot says; a free one says nothing
+-- the row that a slot with this layout says; a free one says nothing
+abbrev pub row_with : Option Layout → TableSlot → Option (Key × Cell)
+row_with found slot = if slice_index slot.1 0 == 0 then None else row_by found slot.0 slot.1
+
+-- the row that a slot says, by the layout of its table
 abbrev pub row_in : KnownLayouts → TableSlot → Option (Key × Cell)
-row_in known slot = if slice_index slot.1 0 == 0 then None else row_by (layout_of known slot.0) slot.0 slot.1
+row_in known slot = row_with (layout_of known slot.0) slot
 
 -- whether a table is one of the catalogue
 abbrev pub is_of_catalogue : ℕ → Bool

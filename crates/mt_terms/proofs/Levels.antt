@@ -1,6 +1,6 @@
 -- One step of a reader of conditions.
-use Rattle.std.proofs.Common.{◌≡◌, ℕ, zero, suc, ◌-◌, true, false, Option, is_some, List, refl, ap, ◌∙◌, arith}
-use Rattle.std.specs.Prelude.{codes}
+use Rattle.std.proofs.Common.{◌≡◌, ℕ, zero, suc, ◌-◌, true, false, Option, Some, None, is_some, List, refl, ap, ◌∙◌, arith}
+use Rattle.std.specs.Prelude.{codes, ◌||◌}
 use Rattle.mt_lexer.specs.declared.token.Symbol.TheVariants as symbol
 use Rattle.mt_lexer.specs.Tokens.{Lexeme, Word, Sign}
 use Rattle.mt_tree.specs.declared.expression.Cond.{Cond}
@@ -48,3 +48,13 @@ module _ (depth : ℕ) (lexemes : List Lexeme) (some : depth ≡ 0 → ⊥) wher
     -- without a bracket there is a predicate
     pub neg_of-plain : is_some (after (Sign symbol.Open) lexemes) ≡ false → neg_of depth lexemes ≡ plain_of lexemes
     neg_of-plain none = neg_of-open_or_plain ∙ ap (λ found. open_or_plain (depth - 1) found lexemes) (is_none (after (Sign symbol.Open) lexemes) none)
+
+-- where neither NOT nor a bracket comes first there is a predicate, at every level
+pub neg_of-flat : (depth : ℕ) (lexemes : List Lexeme) → (is_some (after (Word (codes "not")) lexemes) || is_some (after (Sign symbol.Open) lexemes)) ≡ false → neg_of depth lexemes ≡ plain_of lexemes
+unfolding neg_of
+neg_of-flat zero lexemes h = refl
+neg_of-flat (suc depth) lexemes h = by_first (after (Word (codes "not")) lexemes) (after (Sign symbol.Open) lexemes) h where
+  by_first : (denied opened : Option (List Lexeme)) → (is_some denied || is_some opened) ≡ false → either denied (denied_of (neg_of depth)) (either opened (closed_of (or_of (neg_of depth))) (plain_of lexemes)) ≡ plain_of lexemes
+  by_first None None h = refl
+  by_first None (Some rest) h = cc
+  by_first (Some rest) opened h = cc

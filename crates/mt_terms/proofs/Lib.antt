@@ -3,6 +3,7 @@ pub mod Conditions
 pub mod Expressions
 pub mod Follow
 pub mod Inside
+pub mod Integers
 pub mod Levels
 pub mod Predicates
 pub mod Steps

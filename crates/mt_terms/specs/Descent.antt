@@ -1,11 +1,12 @@
 -- The forms as functions, which read lexemes from the left: the tree, and the lexemes behind it.
-use Rattle.std.specs.Prelude.{ℕ, zero, suc, Bool, true, false, ◌||◌, if◌then◌else◌, Option, Some, None, is_some, List, [], ◌∷◌, length, drop, codes}
+use Rattle.std.specs.Prelude.{ℕ, ℤ, zero, suc, Bool, true, false, ◌||◌, if◌then◌else◌, Option, Some, None, is_some, List, [], ◌∷◌, length, drop, codes}
 use Rattle.mt_lexer.specs.declared.token.Symbol.{Symbol}
 use Rattle.mt_lexer.specs.declared.token.Symbol.TheVariants as symbol
 use Rattle.mt_value.specs.declared.truth.Cmp.{Cmp}
 use Rattle.mt_value.specs.declared.truth.Cmp.TheVariants.{Eq, Ne, Lt, Le, Gt, Ge}
 use Rattle.mt_lexer.specs.Tokens.{Lexeme, Word, Sign}
 use Rattle.mt_tree.specs.declared.name.ColName.{ColName}
+use Rattle.mt_tree.specs.declared.expression.Literal.TheVariants.{Int}
 use Rattle.mt_tree.specs.declared.expression.Agg.{Agg}
 use Rattle.mt_tree.specs.declared.expression.Agg.TheVariants as agg
 use Rattle.mt_tree.specs.declared.expression.Atom.{Atom}
@@ -80,6 +81,10 @@ unfoldable pub literal_atom_of : List Lexeme → Option (Atom × List Lexeme)
 literal_atom_of lexemes = do
   literal ← literal_of lexemes
   Some (atom.Literal literal.0, literal.1)
+
+-- a number, as an atom
+abbrev pub int_atom : ℤ → Atom
+int_atom z = atom.Literal (Int z)
 
 -- an aggregate, as an atom
 abbrev pub agg_atom_of : List Lexeme → Option (Atom × List Lexeme)

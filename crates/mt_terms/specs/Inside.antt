@@ -1,5 +1,5 @@
 -- The literals of a tree. A tree is inside 64 bits where each of them is.
-use Rattle.std.specs.Prelude.{List, [], ◌∷◌, ◌++◌, All, flat_map}
+use Rattle.std.specs.Prelude.{◌≡◌, ℕ, ℤ, pos, Bool, Option, Some, option_map, Result, Ok, Err, List, [], ◌∷◌, ◌++◌, All, flat_map}
 use Rattle.mt_tree.specs.declared.expression.Literal.{Literal}
 use Rattle.mt_tree.specs.declared.expression.Atom.{Atom}
 use Rattle.mt_tree.specs.declared.expression.Atom.TheVariants as atom
@@ -12,7 +12,12 @@ use Rattle.mt_tree.specs.declared.expression.Cond.TheOpen.{Cond-F}
 use Rattle.mt_tree.specs.declared.expression.Cond.TheFolds.{fold-Cond}
 use Rattle.mt_terms.specs.declared.test.Test.{Test}
 use Rattle.mt_terms.specs.declared.test.Test.TheVariants as test
+use Rattle.mt_lexer.specs.Tokens.{Lexeme}
+use Rattle.mt_reader.specs.declared.fault.ReadFault.{ReadFault}
 use Rattle.mt_reader.specs.Literals.{IsLiteralInside}
+use Rattle.mt_reader.specs.Descent.{number_of, pushed}
+use Rattle.mt_reader.specs.Taken.{Keeps, Fails, Took}
+use Rattle.mt_terms.specs.Descent.{int_atom}
 
 -- the literal that an atom is
 abbrev pub atom_literals : Atom → List Literal
@@ -79,3 +84,31 @@ cond_literals c = fold-Cond (List Literal) cond_step c
 -- each number of a condition is inside 64 bits
 abbrev pub IsCondInside : Cond → Type 0
 IsCondInside c = All IsLiteralInside (cond_literals c)
+
+-- A number was taken, and this is kept of it.
+pub record TookNumber (kept : Option ℤ) (tokens left : List Lexeme) : Type 0 where
+  pub number : ℕ
+  pub reads : number_of tokens ≡ Some (number, left)
+  pub keeps : Keeps IsAtomInside (option_map int_atom kept) (int_atom (pos number))
+
+-- A term was taken behind a sign, and stands behind the others that are kept.
+pub record AddedTerm (minus : Bool) (old new : Option (List Term)) (left : List Lexeme) (read : Option (Expr × List Lexeme)) : Type 0 where
+  pub kept : Option Expr
+  pub took : Took IsExprInside kept left read
+  pub added : new ≡ pushed old (option_map (λ e. record { minus = minus; expr = e }) kept)
+
+-- It was added, or none is read.
+abbrev pub AddsTerm : {U : Type 0} → Bool → Result U ReadFault → Option (List Term) → Option (List Term) → List Lexeme → Option (Expr × List Lexeme) → Type 0
+AddsTerm minus (Ok u) old new left read = AddedTerm minus old new left read
+AddsTerm minus (Err e) old new left read = Fails e read
+
+-- A condition was taken, and stands behind the others that are kept.
+pub record AddedMember (old new : Option (List Cond)) (left : List Lexeme) (read : Option (Cond × List Lexeme)) : Type 0 where
+  pub kept : Option Cond
+  pub took : Took IsCondInside kept left read
+  pub added : new ≡ pushed old kept
+
+-- It was added, or none is read.
+abbrev pub AddsMember : {U : Type 0} → Result U ReadFault → Option (List Cond) → Option (List Cond) → List Lexeme → Option (Cond × List Lexeme) → Type 0
+AddsMember (Ok u) old new left read = AddedMember old new left read
+AddsMember (Err e) old new left read = Fails e read

@@ -1,15 +1,16 @@
-ghost use Rattle.std.specs.Prelude.{◌≡◌};
+ghost use Rattle.std.specs.Prelude.{◌≡◌, IfSome, IfNone, option_map};
 ghost use Rattle.mt_reader.specs.Taken.{TakesInside};
-ghost use Rattle.mt_terms.specs.Descent.{atom_of, begins_reserved_atom, reserved_atom_of, column_atom_of, literal_atom_of};
-ghost use Rattle.mt_terms.specs.Inside.{IsAtomInside};
+ghost use Rattle.mt_terms.specs.Descent.{atom_of, begins_reserved_atom, reserved_atom_of, column_atom_of, literal_atom_of, int_atom};
+ghost use Rattle.mt_terms.specs.Inside.{IsAtomInside, TookNumber};
 
 use crate::function::aggregate;
 use crate::name::column;
-use mt_reader::{LiteralForm, Production, ReadFault, Reader};
-use mt_tree::Atom;
+use mt_reader::{LiteralForm, Production, ReadFault, Reader, integer_of};
+use mt_tree::{Atom, Literal};
 use std::alloc::Global;
 
 /// Takes an atom; `None` is for a number outside 64 bits, here and below.
+#[inline(always)]
 pub(crate) fn atom(alloc: Global, reader: &mut Reader<'_>) -> Result<Option<Atom>, ReadFault>
     ensures { TakesInside IsAtomInside result reader.new (atom_of reader.old) }
 {
@@ -35,7 +36,7 @@ fn begins_reserved_atom(reader: &Reader<'_>) -> bool
 
 /// Takes a column.
 #[tactic(auto, unfolding(crate::specs::Descent::column_atom_of))]
-#[inline(never)]
+#[inline(always)]
 fn column_atom(alloc: Global, reader: &mut Reader<'_>) -> Result<Option<Atom>, ReadFault>
     ensures { TakesInside IsAtomInside result reader.new (column_atom_of reader.old) }
 {
@@ -64,4 +65,23 @@ fn literal_atom(alloc: Global, reader: &mut Reader<'_>) -> Result<Option<Atom>, 
 {
     let literal = LiteralForm::take(alloc, reader)?;
     Ok(literal.map(Atom::Literal))
+}
+
+/// Takes a number, if one comes first; the inner `None` is for one outside 64 bits. It is an atom by itself, and
+/// moves as one word where other atoms move as eight.
+pub(crate) fn integer(reader: &mut Reader<'_>) -> Option<Option<i64>>
+    ensures some { IfSome result (λ kept. TookNumber kept reader.old reader.new) }
+    ensures none { IfNone result (reader.new ≡ reader.old) }
+{
+    let Some(digits) = reader.takes_number() else {
+        return None;
+    };
+    Some(integer_of(digits))
+}
+
+/// The atom that an integer is.
+pub(crate) fn integer_atom(integer: Option<i64>) -> Option<Atom>
+    ensures { result ≡ option_map int_atom integer }
+{
+    Some(Atom::Literal(Literal::Int(integer?)))
 }

@@ -1,9 +1,9 @@
-ghost use Rattle.std.specs.Prelude.{◌≡◌, List, true, is_some, option_map, codes, IfOk};
-ghost use Rattle.mt_lexer.specs.Tokens.{Lexeme, Word};
+ghost use Rattle.std.specs.Prelude.{◌≡◌, ◌||◌, List, true, is_some, option_map, codes, IfOk};
+ghost use Rattle.mt_lexer.specs.Tokens.{Lexeme, Word, Sign};
 ghost use Rattle.mt_reader.specs.Descent.{after, bracketed_of};
 ghost use Rattle.mt_reader.specs.Taken.{Took, TakesInside};
 ghost use Rattle.mt_terms.specs.Descent.{and_of, or_of, not_of, neg_of, cond_of};
-ghost use Rattle.mt_terms.specs.Inside.{IsCondInside};
+ghost use Rattle.mt_terms.specs.Inside.{IsCondInside, AddsMember};
 
 use crate::members::push;
 use crate::predicate::predicate;
@@ -89,10 +89,37 @@ fn and_behind(
     let mut members = Some(List::new(alloc));
     push(&mut members, first)?;
     while reader.takes_word(b"and") {
-        let next = negation(alloc, reader, depth)?;
-        push(&mut members, next)?;
+        add_member(alloc, reader, depth, &mut members)?;
     }
     Ok(all_of(members))
+}
+
+/// Takes the condition behind an AND, and adds it to those that are kept. A predicate goes there at once, and not
+/// by way of a call between, which would move it.
+#[cycle(condition)]
+fn add_member(
+    alloc: Global,
+    reader: &mut Reader<'_>,
+    depth: usize,
+    members: &mut Option<List<Cond>>,
+) -> Result<(), ReadFault>
+    ensures { AddsMember result members.old members.new reader.new (neg_of depth reader.old) }
+{
+    if begins_nested(reader) {
+        let next = negation(alloc, reader, depth)?;
+        push(members, next)?;
+        return Ok(());
+    }
+    let next = predicate(alloc, reader)?;
+    push(members, next)?;
+    Ok(())
+}
+
+/// Whether NOT or a bracket comes first.
+fn begins_nested(reader: &Reader<'_>) -> bool
+    ensures { result ≡ (is_some (after (Word (codes "not")) reader.now) || is_some (after (Sign Symbol.Open) reader.now)) }
+{
+    reader.is_at(b"not") || reader.is_at_symbol(Symbol::Open)
 }
 
 /// Takes a predicate, or a condition behind NOT or in brackets.

@@ -5,6 +5,7 @@ use mt_list::List;
 use std::alloc::AllocError;
 
 /// Adds an item to those that are kept, in their place. Where it is not there, none are kept from then on.
+#[inline(always)]
 pub(crate) fn push<T: Drop>(items: &mut Option<List<T>>, item: Option<T>) -> Result<(), AllocError>
     ensures { OnOk result (items.new ≡ pushed items.old item) }
 {

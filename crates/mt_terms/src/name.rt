@@ -11,6 +11,7 @@ use std::alloc::Global;
 
 /// Takes a column: a name, or a table's name, a dot and a name.
 #[tactic(auto, unfolding(crate::specs::Descent::column_of))]
+#[inline(always)]
 pub(crate) fn column(alloc: Global, reader: &mut Reader<'_>) -> Result<ColName, ReadFault>
     ensures { TakesExactly result (λ column. (column, reader.new)) (column_of reader.old) }
 {

@@ -4,7 +4,7 @@ ghost use Rattle.mt_reader.specs.Taken.{Keeps, TakesInside};
 ghost use Rattle.mt_terms.specs.Descent.{plain_of, compared_of, said_with, both, cond_with};
 ghost use Rattle.mt_terms.specs.Inside.{IsAtomInside, IsCondInside};
 
-use crate::leaf::atom;
+use crate::leaf::{atom, integer, integer_atom};
 use crate::test::{Test, comparison, said};
 use mt_reader::{ReadFault, Reader};
 use mt_tree::{Atom, Cond};
@@ -32,8 +32,11 @@ fn compared(
 ) -> Result<Option<Cond>, ReadFault>
     ensures { (a : Atom) → Keeps IsAtomInside left a → TakesInside IsCondInside result reader.new (compared_of op a reader.old) }
 {
-    let right = atom(alloc, reader)?;
-    Ok(compares(op, left, right))
+    let Some(number) = integer(reader) else {
+        let right = atom(alloc, reader)?;
+        return Ok(compares(op, left, right));
+    };
+    Ok(compares(op, left, integer_atom(number)))
 }
 
 /// Takes what else is said of an atom.
@@ -49,6 +52,7 @@ fn tested(
 }
 
 /// The predicate that compares two atoms.
+#[inline(always)]
 fn compares(op: Cmp, left: Option<Atom>, right: Option<Atom>) -> Option<Cond>
     ensures { result ≡ both (Cond.Compare op) left right }
 {

@@ -2,10 +2,10 @@ ghost use Rattle.std.specs.Prelude.{◌≡◌, List, true, is_some, option_map};
 ghost use Rattle.mt_lexer.specs.Tokens.{Lexeme, Sign};
 ghost use Rattle.mt_reader.specs.Descent.{after, bracketed_of};
 ghost use Rattle.mt_reader.specs.Taken.{Took, TakesAny, TakesInside};
-ghost use Rattle.mt_terms.specs.Descent.{alone_of, term_of, minus_of, sign_of, sum_of, factor_of, expr_of};
-ghost use Rattle.mt_terms.specs.Inside.{IsExprInside};
+ghost use Rattle.mt_terms.specs.Descent.{alone_of, term_of, minus_of, sign_of, sum_of, factor_of, expr_of, int_atom};
+ghost use Rattle.mt_terms.specs.Inside.{IsExprInside, AddsTerm};
 
-use crate::leaf::atom;
+use crate::leaf::{atom, integer, integer_atom};
 use crate::members::push;
 use mt_lexer::Symbol;
 use mt_list::List;
@@ -51,10 +51,34 @@ fn sum_behind(
     let mut terms = Some(List::new(alloc));
     push(&mut terms, term(false, first))?;
     while let Some(minus) = sign(reader) {
-        let next = product(alloc, reader, depth)?;
-        push(&mut terms, term(minus, next))?;
+        add_term(alloc, reader, depth, minus, &mut terms)?;
     }
     Ok(summed(terms))
+}
+
+/// Takes the term behind a sign, and adds it to those that are kept.
+#[cycle(expression)]
+fn add_term(
+    alloc: Global,
+    reader: &mut Reader<'_>,
+    depth: usize,
+    minus: bool,
+    terms: &mut Option<List<Term>>,
+) -> Result<(), ReadFault>
+    ensures { AddsTerm minus result terms.old terms.new reader.new (term_of (factor_of depth) reader.old) }
+{
+    let Some(number) = integer(reader) else {
+        let next = product(alloc, reader, depth)?;
+        push(terms, term(minus, next))?;
+        return Ok(());
+    };
+    if !reader.is_at_symbol(Symbol::Star) {
+        push(terms, integer_term(minus, number))?;
+        return Ok(());
+    }
+    let next = product_behind(alloc, reader, depth, integer_alone(number))?;
+    push(terms, term(minus, next))?;
+    Ok(())
 }
 
 /// Takes factors with stars between.
@@ -172,6 +196,20 @@ fn term(minus: bool, expr: Option<Expr>) -> Option<Term>
     ensures { result ≡ option_map (λ e. record { minus = minus; expr = e }) expr }
 {
     Some(Term { minus, expr: expr? })
+}
+
+/// The expression that an integer is.
+fn integer_alone(integer: Option<i64>) -> Option<Expr>
+    ensures { result ≡ option_map Expr.Atom (option_map int_atom integer) }
+{
+    Some(Expr::Atom(integer_atom(integer)?))
+}
+
+/// One member of a sum that is an integer.
+fn integer_term(minus: bool, integer: Option<i64>) -> Option<Term>
+    ensures { result ≡ option_map (λ e. record { minus = minus; expr = e }) (option_map Expr.Atom (option_map int_atom integer)) }
+{
+    term(minus, integer_alone(integer))
 }
 
 /// The sum of these members.

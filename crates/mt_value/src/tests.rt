@@ -235,3 +235,13 @@ fn rows_are_keys(rt: HostRuntime) -> Result<(), Fail> {
     }
     Ok(())
 }
+
+#[test]
+fn takes_bytes_as_a_text(rt: HostRuntime) -> Result<(), Fail> {
+    let text = Str::from_vec(Vec::from_slice(rt.alloc(), "Zoë".as_bytes())?);
+    assert!(rt; text.is_some_and(|text| text.as_str() == "Zoë"));
+    assert!(rt; Str::from_vec(Vec::from_slice(rt.alloc(), b"Zo\xc3")?).is_none());
+    let longest = Str::from_vec(vec![in rt.alloc(); b'a'; 65_536]?);
+    assert!(rt; longest.is_some_and(|text| text.len() == 65_536));
+    Ok(())
+}

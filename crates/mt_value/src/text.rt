@@ -1,4 +1,4 @@
-ghost use Rattle.std.specs.Prelude.{◌≡◌, ◌↔◌, length, IfOk, OnOk, IsErrOf};
+ghost use Rattle.std.specs.Prelude.{◌≡◌, ◌↔◌, length, IfOk, IfSome, IfNone, OnOk, OnSome, IsErrOf};
 
 use mt_list::Duplicate;
 use std::alloc::{AllocError, Global};
@@ -63,6 +63,18 @@ impl Str {
         match str::from_utf8(bytes) {
             Ok(text) => Ok(Str::from_str(alloc, text)?),
             Err(_) => Err(StrFault::NotUtf8),
+        }
+    }
+
+    /// The text of these bytes, with no memory taken: none exactly where they are not UTF-8.
+    pub fn from_vec(bytes: Vec<u8>) -> Option<Str>
+        ensures text { IfSome result (λ text. text ≡ bytes.items) }
+        ensures utf8 { OnSome result (IsUtf8 bytes.items) }
+        ensures not_utf8 { IfNone result (¬ (IsUtf8 bytes.items)) }
+    {
+        match String::from_utf8(bytes) {
+            Ok(text) => Some(Str { text }),
+            Err(_) => None,
         }
     }
 

@@ -11,7 +11,7 @@ use Rattle.mt_terms.specs.Descent.{and_of, or_of, neg_of}
 use Rattle.mt_terms.specs.Inside.{IsCondInside}
 use Rattle.mt_terms.proofs.Conditions.{neg_shrinks, and_shrinks}
 use Rattle.mt_terms.proofs.Inside.{keeps_and, keeps_or}
-use Rattle.mt_terms.proofs.Levels.{neg_of-none, neg_of-not, neg_of-open, neg_of-plain}
+use Rattle.mt_terms.proofs.Levels.{neg_of-none, neg_of-not, neg_of-open, neg_of-plain, neg_of-flat}
 use Rattle.mt_terms.proofs.logic.+condition.Goals as goal
 
 -- conjunction
@@ -35,28 +35,43 @@ and_behind-loop-alloc-init t c = λ lexemes took.
     (sym (c.in_ok-push.ensures ∙ ap (λ none. pushed (Some none) c.args.first) c.new.ensures))
     (joined_first (neg_of c.args.depth) (neg_shrinks c.args.depth) (Word (codes "and")) cond.And IsCondInside lexemes c.args.reader.now c.args.first c.requires took)
 
-pub and_behind-returns-in_err-next : goal.and_behind-returns-in_err-next
+pub and_behind-returns-in_err-add_member : goal.and_behind-returns-in_err-add_member
 unfolding and_of
-and_behind-returns-in_err-next t c = λ lexemes took.
-    let p = err_from_is_err_and c.from_residual-in_err-next.result c.from_residual-in_err-next.ensures.1 in
-    rw (p.1, p.2) (joined_more_fails (neg_of c.args.depth) (neg_shrinks c.args.depth) (Word (codes "and")) cond.And IsCondInside lexemes c.loop-alloc.reader c.loop-alloc.members (c.loop-alloc.invariant lexemes took) c.takes_word.new.self c.in_err-next.field-0.0 c.loop-alloc-test.ensures c.in_err-next.ensures)
+and_behind-returns-in_err-add_member t c = λ lexemes took.
+    let p = err_from_is_err_and c.from_residual-in_err-add_member.result c.from_residual-in_err-add_member.ensures.1 in
+    rw (p.1, p.2) (joined_more_fails (neg_of c.args.depth) (neg_shrinks c.args.depth) (Word (codes "and")) cond.And IsCondInside lexemes c.loop-alloc.reader c.loop-alloc.members (c.loop-alloc.invariant lexemes took) c.takes_word.new.self c.in_err-add_member.field-0.0 c.loop-alloc-test.ensures c.in_err-add_member.ensures)
 
 pub and_behind-loop-alloc-smaller : goal.and_behind-loop-alloc-smaller
 and_behind-loop-alloc-smaller t c =
-    let took = c.in_ok-next.ensures in
-    let shorter = neg_shrinks c.args.depth c.takes_word.new.self c.negation.new.reader took.tree took.reads in
+    let took = c.in_ok-add_member.ensures.took in
+    let shorter = neg_shrinks c.args.depth c.takes_word.new.self c.add_member.new.reader took.tree took.reads in
     omega (arith, after_shrinks _ c.loop-alloc.reader c.takes_word.new.self c.loop-alloc-test.ensures)
 
 pub and_behind-loop-alloc-preserved : goal.and_behind-loop-alloc-preserved
 and_behind-loop-alloc-preserved t c = λ lexemes took.
-    rw c.in_ok-push-2.ensures
-    (joined_more (neg_of c.args.depth) (neg_shrinks c.args.depth) (Word (codes "and")) cond.And IsCondInside lexemes c.loop-alloc.reader c.loop-alloc.members (c.loop-alloc.invariant lexemes took) c.takes_word.new.self c.negation.new.reader c.in_ok-next.next c.loop-alloc-test.ensures c.in_ok-next.ensures)
+    let member = c.in_ok-add_member.ensures in
+    rw member.added
+    (joined_more (neg_of c.args.depth) (neg_shrinks c.args.depth) (Word (codes "and")) cond.And IsCondInside lexemes c.loop-alloc.reader c.loop-alloc.members (c.loop-alloc.invariant lexemes took) c.takes_word.new.self c.add_member.new.reader member.kept c.loop-alloc-test.ensures member.took)
 
 pub and_behind-returns : goal.and_behind-returns
 unfolding and_of
 and_behind-returns t c = λ lexemes took.
     rw (c.all_of.ensures, c.loop-alloc-test.ensures.1)
     (joined_took (neg_of c.args.depth) (neg_shrinks c.args.depth) (Word (codes "and")) cond.And IsCondInside lexemes c.loop-alloc.reader c.loop-alloc.members (c.loop-alloc.invariant lexemes took) keeps_and c.loop-alloc-test.ensures.0)
+
+-- a condition behind an AND
+
+pub add_member-returns-in_err-next-2 : goal.add_member-returns-in_err-next-2
+add_member-returns-in_err-next-2 t c =
+    let p = err_from_is_err_and c.from_residual-in_err-next-2.result c.from_residual-in_err-next-2.ensures.1 in
+    rw (p.1, p.2, neg_of-flat c.args.depth c.args.reader.now (sym c.begins_nested.ensures ∙ c.if-begins_nested.false)) c.in_err-next-2.ensures
+
+pub add_member-returns : goal.add_member-returns
+add_member-returns t c = record {
+  kept = c.in_ok-next-2.next;
+  took = rw (neg_of-flat c.args.depth c.args.reader.now (sym c.begins_nested.ensures ∙ c.if-begins_nested.false)) c.in_ok-next-2.ensures;
+  added = c.in_ok-push-2.ensures;
+}
 
 -- disjunction
 

@@ -20,9 +20,9 @@ pub text_of-requires : goal.text_of-requires
 text_of-requires c =
     let word = c.in-Some-word.word.now in
     let ascii = word_ascii c.in-Some.first c.in-Some-word.word c.in-Some.ensures.is_piece (sym c.in-Some-word.ensures) in
-    rw (c.as_slice.ensures.value, c.in_ok-name.ensures.ok) (IsUtf8-from_ascii (map to_ascii_lowercase word) (IsAscii-map to_ascii_lowercase word lowercase_ascii ascii))
+    rw c.in_ok-name.ensures.ok (IsUtf8-from_ascii (map to_ascii_lowercase word) (IsAscii-map to_ascii_lowercase word lowercase_ascii ascii))
 
 pub returns : goal.returns
 returns c =
-    name_of_word c.in-Some.first c.args.self.now c.skip.new.self c.in-Some-word.word c.in_ok-text_of.field-0 c.in-Some.ensures.first (sym c.in-Some-word.ensures) (sym c.if-is_reserved.ensures) c.skip.ensures
-    (c.in_ok-text_of.ensures ∙ c.as_slice.ensures.value ∙ c.in_ok-name.ensures.ok)
+    name_of_word c.in-Some.first c.args.self.now c.skip.new.self c.in-Some-word.word c.text_of.result c.in-Some.ensures.first (sym c.in-Some-word.ensures) (sym c.if-is_reserved.ensures) c.skip.ensures
+    (c.text_of.ensures ∙ c.in_ok-name.ensures.ok)

@@ -1,14 +1,5 @@
--- Digits are a number, and nothing else is.
-use Rattle.std.proofs.Common.{sym}
-use Rattle.mt_reader.proofs.Steps.{number_of_end, number_of_other, number_of_digits}
+-- What is taken is a number, and nothing else reads as one.
 use Rattle.mt_reader.proofs.reader.Reader.number.Goals as goal
 
 pub returns-in_default-clause-taken : goal.returns-in_default-clause-taken
-returns-in_default-clause-taken c = number_of_end c.args.self.now c.in_default.ensures.none
-
-pub returns-in_default-digits-clause-taken : goal.returns-in_default-digits-clause-taken
-returns-in_default-digits-clause-taken c = number_of_other c.in-Some.first c.args.self.now c.in-Some.ensures.first (sym c.in_default-digits.ensures)
-
-pub returns-clause-taken : goal.returns-clause-taken
-returns-clause-taken c =
-    number_of_digits c.in-Some.first c.args.self.now c.skip.new.self c.in-Some-digits.digits c.in-Some.ensures.first (sym c.in-Some-digits.ensures) c.skip.ensures
+returns-in_default-clause-taken c = c.in_default.ensures.taken.0
