@@ -6,6 +6,7 @@
 #![tactic(auto)]
 
 mod commit;
+mod laws;
 mod lent;
 mod page_scan;
 mod sizes;
@@ -14,6 +15,7 @@ mod store;
 mod survey;
 mod table_scan;
 
+pub use laws::{staging_is_kept, standing_is_kept};
 pub use lent::Lent;
 pub use sizes::{Sizes, TableSize};
 pub use stage::Staged;
