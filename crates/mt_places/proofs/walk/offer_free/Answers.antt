@@ -38,8 +38,8 @@ loop-number-preserved c =
     let parts = c.split_at.ensures in
     let old = c.loop-number.places in
     let room = room_for_others width left more _ _ fewer before.room parts.back_len in
-    let others (table : ℕ) : List ℕ = free_in table (slots_from width table c.args.page (number + 1) more c.split_at.result.1.now) in
-    let next (table : ℕ) = free-next width table c.args.page number left more c.loop-number.rest.now c.split_at.result.0.now c.split_at.result.1.now in
+    let others : ℕ → List ℕ = λ table. free_in table (slots_from width table c.args.page (number + 1) more c.split_at.result.1.now) in
+    let next = λ (table : ℕ). free-next width table c.args.page number left more c.loop-number.rest.now c.split_at.result.0.now c.split_at.result.1.now in
     elim c.if-slot-eq-FREE.branch [
       | then-slot-eq-FREE+in_ok-offer w ↦
           let position = slot_position width c.args.page number in
