@@ -70,7 +70,9 @@ cause_chosen {U} r known changes count tables places old new looks none listed c
   where
     by : (r : Result U StageFault) → IsErr r → (IsErrOf r faults.Disk → (area : Area) → Begins known count area (free_at_start known changes count area) places → MayChange known changes count area → ⊥) → StageCause r known changes count old new
     by (Ok x) err never = absurd (false≢true err)
-    by (Err faults.Disk) err never = λ tells may.
+    by (Err faults.Disk) err never = λ both.
+        let tells = both.0 in
+        let may = both.1 in
         let told = looks.leaves.told tells in
         let few = may.few in
         let same : new.content ≡ old.content = looks.content tells in
