@@ -3,7 +3,7 @@ use Rattle.std.specs.Prelude.{ℕ, ◌≤◌, ◌==◌, nat_le, Bool, false, not
 use Rattle.std.specs.List.{AllPass, list_all, list_any}
 use Rattle.mt_lexer.specs.declared.token.Symbol.{Symbol}
 use Rattle.mt_lexer.specs.declared.token.Symbol.TheVariants as symbol
-use Rattle.mt_lexer.specs.Tokens.{Lexeme, Spells, EndsBefore, BeginsNoWith, begins_word, is_in_word, is_digit, is_upper}
+use Rattle.mt_lexer.specs.Tokens.{Lexeme, Spells, EndsBefore, BeginsNoWith, begins_word, is_in_word, is_upper}
 
 -- The first n bytes spell this, and it ends there.
 pub record IsFirstToken (rest : List ℕ) (n : ℕ) (lexeme : Lexeme) : Type 0 where
@@ -16,12 +16,6 @@ pub record IsWordRun (rest : List ℕ) (n : ℕ) : Type 0 where
   pub within : n ≤ length rest
   pub run : AllPass is_in_word (take n rest)
   pub ends : BeginsNoWith is_in_word (drop n rest)
-
--- The first n bytes are digits, and the next one not.
-pub record IsDigitRun (rest : List ℕ) (n : ℕ) : Type 0 where
-  pub within : n ≤ length rest
-  pub run : AllPass is_digit (take n rest)
-  pub ends : BeginsNoWith is_digit (drop n rest)
 
 -- the symbol that a byte begins, where this byte follows it, or 0 none
 abbrev pub symbol_of : ℕ → ℕ → Option Symbol

@@ -1,7 +1,8 @@
-ghost use Rattle.std.specs.Prelude.{◌≡◌, ℕ, List, length, take, map, slice_index, IfSome, IfNone};
+ghost use Rattle.std.specs.Prelude.{◌≡◌, ◌≤◌, ℕ, List, false, length, take, map, slice_index, IfSome, IfNone};
+ghost use Rattle.std.specs.List.{AllPass};
 ghost use Rattle.std.specs.Str.Parse.{digits_value};
 ghost use Rattle.mt_lexer.specs.Tokens.{Lexeme, Word, Number, Quoted, Sign, begins_word, is_in_word, is_digit, lower, symbol_bytes};
-ghost use Rattle.mt_lexer.specs.FirstToken.{IsWordRun, IsDigitRun, IsFirstToken, symbol_of};
+ghost use Rattle.mt_lexer.specs.FirstToken.{IsWordRun, IsFirstToken, symbol_of};
 
 use crate::{Symbol, TokenKind};
 
@@ -76,7 +77,9 @@ pub(crate) fn word_len(rest: &[u8]) -> Option<usize>
 
 /// How many digits these bytes begin with.
 fn digits_len(rest: &[u8]) -> usize
-    ensures { IsDigitRun rest.now result }
+    ensures within { result ≤ length rest.now }
+    ensures run { AllPass is_digit (take result rest.now) }
+    ensures ends { is_digit (slice_index rest.now result) ≡ false }
 {
     let mut len = 0;
     while len < rest.len() && is_digit(rest[len]) {
