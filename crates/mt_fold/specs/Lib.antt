@@ -1,0 +1,6 @@
+pub mod Covers
+pub mod Extended
+pub mod Folds
+pub mod Placements
+pub mod Shapes
+pub mod Texts
