@@ -1,3 +1,4 @@
+pub mod Clauses
 pub mod Covers
 pub mod Extended
 pub mod Folds

@@ -1,5 +1,6 @@
-ghost use Rattle.std.specs.Prelude.{◌≡◌, IfSome, IfNone, OnSome};
-ghost use Rattle.mt_fold.specs.Shapes.{price_of, shape_table};
+ghost use Rattle.std.specs.Prelude.{◌≡◌, ◌≢◌, count_by, length, IfSome, IfNone, OnSome};
+ghost use Rattle.mt_codec.specs.declared.field.FieldKind.TheVariants.{Int};
+ghost use Rattle.mt_fold.specs.Shapes.{fields_of, price_of, same_sort, shape_table};
 ghost use Rattle.mt_fold.specs.Texts.{shape_name};
 
 use mt_list::{Duplicate, List};
@@ -62,6 +63,30 @@ impl Shape {
             Shape::C4 => 121,
             Shape::C5 => 349,
             Shape::C6 => 613,
+        }
+    }
+
+    /// How many integers a chunk of this shape has.
+    pub(crate) fn numbers(self) -> u8
+        ensures { result ≡ count_by (same_sort Int) (fields_of self) }
+    {
+        match self {
+            Shape::C1 | Shape::C3 => 1,
+            Shape::C2 => 0,
+            Shape::C4 | Shape::C6 => 4,
+            Shape::C5 => 2,
+        }
+    }
+
+    /// How many fields a chunk of this shape has.
+    pub(crate) fn width(self) -> u8
+        ensures { result ≡ length (fields_of self) }
+    {
+        match self {
+            Shape::C1 | Shape::C2 => 1,
+            Shape::C3 => 2,
+            Shape::C4 | Shape::C5 => 4,
+            Shape::C6 => 8,
         }
     }
 

@@ -1,9 +1,19 @@
+ghost use Rattle.std.specs.Prelude.{◌≡◌, ◌+◌, ◌<◌, ℕ, length, slice_get, Some};
 ghost use Rattle.std.specs.Bool.{Decides};
+ghost use Rattle.mt_fold.specs.declared.fold.Place.TheVariants.{Conv, Field};
+ghost use Rattle.mt_fold.specs.Clauses.{AreApart, AreFirst, Fit, HasColumn, IsNext, IsTaken, kind_at};
 ghost use Rattle.mt_fold.specs.Folds.{IsValidFold};
 ghost use Rattle.mt_fold.specs.Placements.{IsValidPlacement};
+ghost use Rattle.mt_fold.specs.Shapes.{chunk_kind};
 
-use crate::{Fold, Placement};
-use mt_tree::Columns;
+use crate::{Fold, Place, Placement, Shape};
+use mt_tree::{Column, Columns, Kind};
+
+/// The greatest number of chunks of a fold.
+const MOST_CHUNKS: usize = 16;
+
+/// Rows are below this number.
+const ROWS_END: u64 = 1 << 63;
 
 /// Whether the fold fits the columns, the first `base_len` of which are the base table's: each column
 /// has one place of its kind, only base columns lie in the conventional row, there are at most 16
@@ -12,7 +22,15 @@ use mt_tree::Columns;
 pub fn valid(fold: &Fold, columns: &Columns, base_len: usize) -> bool
     ensures { Decides result (IsValidFold fold.now columns.now base_len) }
 {
-    false
+    let shapes = fold.shapes.as_slice();
+    let places = fold.places.as_slice();
+    places.len() == columns.len()
+        && base_columns_alone(places, base_len)
+        && shapes.len() <= MOST_CHUNKS
+        && each_chunk_has_a_column(shapes, places)
+        && fields_fit(shapes, places, columns.as_slice())
+        && are_apart(places)
+        && first_fields_first(shapes, places)
 }
 
 /// Whether each fold of the placement fits the columns, its generation is 0 or 1 and, where the table
@@ -20,5 +38,145 @@ pub fn valid(fold: &Fold, columns: &Columns, base_len: usize) -> bool
 pub fn valid_placement(placement: &Placement, columns: &Columns, base_len: usize) -> bool
     ensures { Decides result (IsValidPlacement placement.now columns.now base_len) }
 {
+    match placement {
+        Placement::Settled { generation, fold } => {
+            *generation <= 1 && valid(fold, columns, base_len)
+        }
+        Placement::Moving {
+            generation,
+            before,
+            after,
+            frontier,
+            upto,
+        } => {
+            *generation <= 1
+                && valid(before, columns, base_len)
+                && valid(after, columns, base_len)
+                && frontier < upto
+                && *upto <= ROWS_END
+        }
+    }
+}
+
+/// Whether only base columns lie in the conventional row.
+fn base_columns_alone(places: &[Place], base_len: usize) -> bool
+    ensures { Decides result ((column : ℕ) → slice_get places.now column ≡ Some Conv → column < base_len) }
+{
+    for (column, place) in places.iter().enumerate() {
+        if let Place::Conv = place {
+            if column >= base_len {
+                return false;
+            }
+        }
+    }
+    true
+}
+
+/// Whether each chunk has a column.
+fn each_chunk_has_a_column(shapes: &[Shape], places: &[Place]) -> bool
+    ensures { Decides result ((chunk : ℕ) → chunk < length shapes.now → HasColumn places.now chunk) }
+{
+    for chunk in 0..shapes.len() {
+        if !has_column(places, chunk) {
+            return false;
+        }
+    }
+    true
+}
+
+/// Whether a column lies in that chunk.
+fn has_column(places: &[Place], wanted: usize) -> bool
+    ensures { Decides result (HasColumn places.now wanted) }
+{
+    for place in places {
+        if let Place::Field { chunk, .. } = place {
+            if usize::from(*chunk) == wanted {
+                return true;
+            }
+        }
+    }
     false
+}
+
+/// Whether each column in a chunk lies in a field of its kind.
+fn fields_fit(shapes: &[Shape], places: &[Place], columns: &[Column]) -> bool
+    ensures { Decides result (Fit shapes.now places.now columns.now) }
+{
+    for (place, column) in places.iter().zip(columns) {
+        if let Place::Field { chunk, field } = place {
+            if !is_of_kind(shapes, *chunk, *field, column.kind) {
+                return false;
+            }
+        }
+    }
+    true
+}
+
+/// Whether a chunk has that field, and columns of that kind lie in it.
+fn is_of_kind(shapes: &[Shape], chunk: u8, field: u8, kind: Kind) -> bool
+    ensures { Decides result (kind_at shapes.now chunk field ≡ Some (chunk_kind kind)) }
+{
+    match shapes.get(usize::from(chunk)) {
+        None => false,
+        Some(shape) => match kind {
+            Kind::Integer => field < shape.numbers(),
+            Kind::Varchar(_) => shape.numbers() <= field && field < shape.width(),
+        },
+    }
+}
+
+/// Whether no field holds two columns.
+fn are_apart(places: &[Place]) -> bool
+    ensures { Decides result (AreApart places.now) }
+{
+    for (column, place) in places.iter().enumerate() {
+        if let Place::Field { chunk, field } = place {
+            if is_taken(&places[..column], *chunk, *field) {
+                return false;
+            }
+        }
+    }
+    true
+}
+
+/// Whether one of the places is that field.
+fn is_taken(places: &[Place], chunk: u8, field: u8) -> bool
+    ensures { Decides result (IsTaken places.now chunk field) }
+{
+    for place in places {
+        if let Place::Field { chunk: other, field: there } = place {
+            if *other == chunk && *there == field {
+                return true;
+            }
+        }
+    }
+    false
+}
+
+/// Whether of the fields of one sort in a chunk those that are used come first.
+fn first_fields_first(shapes: &[Shape], places: &[Place]) -> bool
+    ensures { Decides result (AreFirst shapes.now places.now) }
+{
+    for place in places {
+        if let Place::Field { chunk, field } = place {
+            if *field > 0 {
+                let before = *field - 1;
+                if is_next(shapes, *chunk, before) && !is_taken(places, *chunk, before) {
+                    return false;
+                }
+            }
+        }
+    }
+    true
+}
+
+/// Whether a chunk has that field and, behind it, one of the same sort.
+fn is_next(shapes: &[Shape], chunk: u8, before: u8) -> bool
+    requires { before < 255 }
+    ensures { Decides result (IsNext shapes.now chunk before) }
+{
+    match shapes.get(usize::from(chunk)) {
+        None => false,
+        Some(shape) => before + 1 != shape.numbers() && before + 1 < shape.width(),
+    }
 }
