@@ -82,18 +82,27 @@ fn folds_that_fit(rt: HostRuntime) -> Result<(), Fail> {
         // CONV (id), C2 (d), C4 (a, b, c)
         (&[C2, C4], [CONV, at(1, 0), at(1, 1), at(1, 2), at(0, 0)]),
         // CONV (id), C1 (a), C1 (b), C3 (c, d)
-        (&[C1, C1, C3], [CONV, at(0, 0), at(1, 0), at(2, 0), at(2, 1)]),
+        (
+            &[C1, C1, C3],
+            [CONV, at(0, 0), at(1, 0), at(2, 0), at(2, 1)],
+        ),
         // CONV (id), C3 (a, d), C4 (b, c)
         (&[C3, C4], [CONV, at(0, 0), at(1, 0), at(1, 1), at(0, 1)]),
         // C4 (id, a, b, c), C2 (d)
-        (&[C4, C2], [at(0, 0), at(0, 1), at(0, 2), at(0, 3), at(1, 0)]),
+        (
+            &[C4, C2],
+            [at(0, 0), at(0, 1), at(0, 2), at(0, 3), at(1, 0)],
+        ),
         // CONV (id), C4 (c, b, a), C3 (d)
         (&[C4, C3], [CONV, at(0, 2), at(0, 1), at(0, 0), at(1, 1)]),
         // CONV (id), C6 (a, b, c, d)
         (&[C6], [CONV, at(0, 0), at(0, 1), at(0, 2), at(0, 4)]),
     ];
     for (shapes, places) in cases {
-        assert!(rt; fits_item(rt.alloc(), shapes, &places)?, "{shapes:?} {places:?}");
+        assert!(rt;
+            fits_item(rt.alloc(), shapes, &places)?,
+            "{shapes:?} {places:?}"
+        );
     }
     Ok(())
 }
@@ -101,7 +110,11 @@ fn folds_that_fit(rt: HostRuntime) -> Result<(), Fail> {
 #[test]
 fn folds_that_do_not_fit(rt: HostRuntime) -> Result<(), Fail> {
     let cases: [(&str, &[Shape], &[Place]); 11] = [
-        ("d has no place", &[C4], &[CONV, at(0, 0), at(0, 1), at(0, 2)]),
+        (
+            "d has no place",
+            &[C4],
+            &[CONV, at(0, 0), at(0, 1), at(0, 2)],
+        ),
         (
             "a place too many",
             &[C2, C4],
@@ -180,7 +193,12 @@ fn at_most_sixteen_chunks(rt: HostRuntime) -> Result<(), Fail> {
 }
 
 /// A placement of a table of two base columns, which moves from CONV to one chunk.
-fn moving(alloc: Global, generation: u8, frontier: u64, upto: u64) -> Result<Placement, AllocError> {
+fn moving(
+    alloc: Global,
+    generation: u8,
+    frontier: u64,
+    upto: u64,
+) -> Result<Placement, AllocError> {
     Ok(Placement::Moving {
         generation,
         before: fold_of(alloc, &[], &[CONV, CONV])?,
@@ -242,7 +260,11 @@ fn placements_that_fit(rt: HostRuntime) -> Result<(), Fail> {
             generation,
             fold: fold_of(rt.alloc(), &[C2], &[CONV, at(0, 0)])?,
         };
-        assert_eq!(rt; valid_placement(&settled, &columns, 1), wanted, "{generation}");
+        assert_eq!(rt;
+            valid_placement(&settled, &columns, 1),
+            wanted,
+            "{generation}"
+        );
         assert!(rt; !valid_placement(&settled, &columns, 0));
     }
     Ok(())

@@ -144,7 +144,11 @@ fn is_taken(places: &[Place], chunk: u8, field: u8) -> bool
     ensures { Decides result (IsTaken places.now chunk field) }
 {
     for place in places {
-        if let Place::Field { chunk: other, field: there } = place {
+        if let Place::Field {
+            chunk: other,
+            field: there,
+        } = place
+        {
             if *other == chunk && *there == field {
                 return true;
             }
