@@ -1,5 +1,5 @@
 -- The parts of what a valid fold is, each of which one test decides.
-use Rattle.std.specs.Prelude.{◌≡◌, ℕ, ◌+◌, ◌<◌, List, length, slice_get, option_and_then, Some}
+use Rattle.std.specs.Prelude.{◌≡◌, ℕ, ◌+◌, ◌<◌, List, length, slice_get, option_and_then, Option, Some}
 use Rattle.mt_codec.specs.declared.field.FieldKind.{FieldKind}
 use Rattle.mt_tree.specs.declared.schema.Column.{Column}
 use Rattle.mt_fold.specs.declared.fold.Place.{Place}
