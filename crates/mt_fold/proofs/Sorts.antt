@@ -1,5 +1,7 @@
 -- Which fields of a chunk are integers, and which texts.
-use Rattle.std.proofs.Common.{◌≡◌, ◌≢◌, ℕ, zero, suc, ◌+◌, ◌<◌, ◌≤◌, List, [], ◌∷◌, ◌++◌, length, Option, Some, None, replicate, slice_get, count_by, refl, sym, ap, ◌∙◌, arith}
+use Rattle.std.proofs.Common.{◌≡◌, ◌≢◌, ℕ, zero, suc, ◌+◌, ◌<◌, ◌≤◌, List, [], ◌∷◌, ◌++◌, length, Option, Some, None, replicate, slice_get, count_by, Bool, true, false, not, nat_eq, nat_lt, Decides, get_or, refl, sym, ap, subst, ◌∙◌, arith}
+use Rattle.std.proofs.lemmas.Bool.{ltb-true, lt-ltb, eq-eqb, false≢true}
+use Rattle.std.proofs.lemmas.Option.{slice_get_read}
 use Rattle.mt_codec.specs.declared.field.FieldKind.{FieldKind}
 use Rattle.mt_codec.specs.declared.field.FieldKind.TheVariants.{Int, Text}
 use Rattle.mt_fold.specs.declared.fold.Fold.{Fold}
@@ -37,10 +39,14 @@ texts_stand zero field = nothing (omega arith) (omega arith) refl
 texts_stand (suc texts) zero = text (omega arith) (omega arith) refl
 texts_stand (suc texts) (suc field) = behind_text texts field _ (texts_stand texts field)
 
+-- the same number of fields, in other words
+wide : {numbers field : ℕ} {found : Option FieldKind} (width other : ℕ) → width ≡ other → Stands numbers width field found → Stands numbers other field found
+wide {numbers} {field} {found} width other same stands = subst (λ w. Stands numbers w field found) same stands
+
 fields_stand : (numbers texts field : ℕ) → Stands numbers (numbers + texts) field (slice_get (replicate numbers Int ++ replicate texts (Text 120)) field)
-fields_stand zero texts field = texts_stand texts field
+fields_stand zero texts field = wide texts (0 + texts) (omega arith) (texts_stand texts field)
 fields_stand (suc numbers) texts zero = number (omega arith) (omega arith) refl
-fields_stand (suc numbers) texts (suc field) = behind_number numbers (numbers + texts) field _ (fields_stand numbers texts field)
+fields_stand (suc numbers) texts (suc field) = wide (suc (numbers + texts)) (suc numbers + texts) (omega arith) (behind_number numbers (numbers + texts) field _ (fields_stand numbers texts field))
 
 -- what stands at each field of a chunk
 pub stands_at : (shape : Shape) (field : ℕ) → Stands (numbers_of shape) (length (fields_of shape)) field (slice_get (fields_of shape) field)
@@ -72,7 +78,6 @@ pub text_behind : (numbers width field : ℕ) (found : Option FieldKind) → Sta
 text_behind numbers width field found (number below within is) found_is = cc
 text_behind numbers width field found (text behind within is) found_is = (behind, within)
 text_behind numbers width field found (nothing behind past is) found_is = cc
-
 
 pub is_next : (numbers width before : ℕ) (found next : Option FieldKind) → Stands numbers width before found → Stands numbers width (before + 1) next → before + 1 ≢ numbers → before + 1 < width
     → (kind : FieldKind) × (found ≡ Some kind) × (next ≡ Some kind)
@@ -107,3 +112,41 @@ between numbers width first field last ff f fl kind s1 (nothing b2 w2 e2) (numbe
 between numbers width first field last ff f fl kind s1 (nothing b2 w2 e2) (text b3 w3 e3) le1 le2 is1 is3 = absurd (omega arith)
 between numbers width first field last ff f fl kind s1 (nothing b2 w2 e2) (nothing b3 w3 e3) le1 le2 is1 is3 = cc
 between numbers width first field last ff f fl kind (nothing b1 w1 e1) s2 s3 le1 le2 is1 is3 = cc
+
+-- the chunk that a look-up found
+pub chunk_found : (shapes : List Shape) (sought chunk : ℕ) (shape : Shape) → sought ≡ chunk → true ≡ nat_lt sought (length shapes) → shape ≡ get_or shapes sought shape
+    → slice_get shapes chunk ≡ Some shape
+chunk_found shapes sought chunk shape same below read =
+    subst (λ k. slice_get shapes k ≡ Some shape) same (slice_get_read shapes (length shapes) sought shape refl (ltb-true sought (length shapes) (sym below)) read)
+
+kind_at_shape : (shapes : List Shape) (chunk field : ℕ) (shape : Shape) → slice_get shapes chunk ≡ Some shape → kind_at shapes chunk field ≡ slice_get (fields_of shape) field
+kind_at_shape shapes chunk field shape is = rw is
+
+-- the tests of a field before one of its sort
+pub next_decided : (shapes : List Shape) (chunk before width : ℕ) (shape : Shape) → slice_get shapes chunk ≡ Some shape → width ≡ length (fields_of shape) → before + 1 ≢ numbers_of shape
+    → Decides (nat_lt (before + 1) width) (IsNext shapes chunk before)
+next_decided shapes chunk before width shape chunk_is width_is other =
+    let first = stands_at shape before in
+    let second = stands_at shape (before + 1) in
+    let read_first = kind_at_shape shapes chunk before shape chunk_is in
+    let read_second = kind_at_shape shapes chunk (before + 1) shape chunk_is in (
+      λ less.
+          let inside : before + 1 < length (fields_of shape) = omega (arith, ltb-true (before + 1) width less) in
+          let next = is_next _ _ before _ _ first second other inside in
+          (next.0, read_first ∙ next.1, read_second ∙ next.2),
+      λ next.
+          let inside = next_inside _ _ before _ _ next.0 first second (sym read_first ∙ next.1) (sym read_second ∙ next.2) in
+          lt-ltb (before + 1) width (omega (arith, inside.1)),
+    )
+
+pub not_next : (shapes : List Shape) (chunk before numbers : ℕ) (shape : Shape) → slice_get shapes chunk ≡ Some shape → numbers ≡ numbers_of shape → before + 1 ≡ numbers
+    → Decides (not (nat_eq (before + 1) numbers)) (IsNext shapes chunk before)
+not_next shapes chunk before numbers shape chunk_is numbers_is same =
+    let first = stands_at shape before in
+    let second = stands_at shape (before + 1) in
+    let read_first = kind_at_shape shapes chunk before shape chunk_is in
+    let read_second = kind_at_shape shapes chunk (before + 1) shape chunk_is in
+    let equal : nat_eq (before + 1) numbers ≡ true = eq-eqb (before + 1) numbers same in (
+      λ other. absurd (false≢true (sym (ap not equal) ∙ other)),
+      λ next. absurd ((next_inside _ _ before _ _ next.0 first second (sym read_first ∙ next.1) (sym read_second ∙ next.2)).0 (same ∙ numbers_is)),
+    )

@@ -7,7 +7,7 @@ use Rattle.mt_fold.specs.declared.fold.Fold.{Fold}
 use Rattle.mt_fold.specs.declared.fold.Place.{Place}
 use Rattle.mt_fold.specs.declared.fold.Place.TheVariants.{Conv, Field}
 use Rattle.mt_fold.specs.declared.shape.Shape.{Shape}
-use Rattle.mt_fold.specs.Clauses.{AreApart, AreFirst, Fit, HasColumn, IsNext, IsTaken, kind_at}
+use Rattle.mt_fold.specs.Clauses.{AreApart, AreChunks, AreFields, AreFirst, ArePlaced, Fit, IsTaken, kind_at}
 use Rattle.mt_fold.specs.Folds.{IsField, IsUsed, IsValidFold}
 use Rattle.mt_fold.specs.Shapes.{chunk_kind, fields_of}
 use Rattle.mt_fold.proofs.Sorts.{between, stands_at}
@@ -34,16 +34,16 @@ in_front (y ∷ xs) (suc n) (suc i) x below is = in_front xs n i x (omega arith)
 pub apart_more : (places : List Place) (n : ℕ) → ((chunk field : ℕ) → slice_get places n ≡ Some (Field chunk field) → IsTaken (take n places) chunk field → ⊥) → ApartBelow places n
     → ApartBelow places (n + 1)
 apart_more places n free apart a b chunk field below_a below_b at_a at_b = elim (cases_order a b) as (λ _. a ≡ b) [
-    | inl same ↦ same
-    | inr (inl less) ↦ later a b less below_b at_a at_b
-    | inr (inr less) ↦ sym (later b a less below_a at_b at_a)
-    ] where
-    later : (a b : ℕ) → a < b → b < n + 1 → slice_get places a ≡ Some (Field chunk field) → slice_get places b ≡ Some (Field chunk field) → a ≡ b
-    later a b less below_b at_a at_b = elim (cases_order b n) as (λ _. a ≡ b) [
-        | inl same ↦ absurd (free chunk field (subst (λ k. slice_get places k ≡ Some (Field chunk field)) same at_b) (a, in_front places n a _ (omega arith) at_a))
-        | inr (inl below) ↦ apart a b chunk field (omega arith) below at_a at_b
-        | inr (inr above) ↦ absurd (omega arith)
-        ]
+  | inl same ↦ same
+  | inr (inl less) ↦ later a b less below_b at_a at_b
+  | inr (inr less) ↦ sym (later b a less below_a at_b at_a)
+] where
+  later : (a b : ℕ) → a < b → b < n + 1 → slice_get places a ≡ Some (Field chunk field) → slice_get places b ≡ Some (Field chunk field) → a ≡ b
+  later a b less below_b at_a at_b = elim (cases_order b n) as (λ _. a ≡ b) [
+    | inl same ↦ absurd (free chunk field (subst (λ k. slice_get places k ≡ Some (Field chunk field)) same at_b) (a, in_front places n a _ (omega arith) at_a))
+    | inr (inl below) ↦ apart a b chunk field (omega arith) below at_a at_b
+    | inr (inr above) ↦ absurd (omega arith)
+  ]
 
 -- a column in a field that one before it takes
 pub not_apart : (places : List Place) (n chunk field : ℕ) → slice_get places n ≡ Some (Field chunk field) → IsTaken (take n places) chunk field → AreApart places → ⊥
@@ -80,7 +80,7 @@ first_of_gap shapes places chunk kind are_first (suc gap) field earlier distance
     let next : field ≡ before + 1 = omega arith in
     let next_is : kind_at shapes chunk (before + 1) ≡ Some kind = subst (λ f. kind_at shapes chunk f ≡ Some kind) next is in
     let before_is : kind_at shapes chunk before ≡ Some kind = kind_between_in (slice_get shapes chunk) earlier before (before + 1) kind (omega arith) (omega arith) earlier_is next_is in
-    let before_taken = are_first chunk before (subst (λ f. IsTaken places chunk f) next taken) (kind, before_is, next_is) in
+    let before_taken = are_first taken.0 chunk field taken.1 before next (kind, before_is, next_is) in
     first_of_gap shapes places chunk kind are_first gap before earlier refl before_taken before_is earlier_is
 
 pub first_fields_from : (fold : Fold) → AreFirst fold.shapes fold.places → (chunk field earlier : ℕ) (kind : FieldKind) → IsUsed fold chunk field → IsField fold chunk field kind → earlier < field
@@ -88,34 +88,30 @@ pub first_fields_from : (fold : Fold) → AreFirst fold.shapes fold.places → (
 first_fields_from fold are_first chunk field earlier kind used is less earlier_is =
     first_of_gap fold.shapes fold.places chunk kind are_first (field - earlier) field earlier (omega arith) used (kind_from_field fold chunk field kind is) (kind_from_field fold chunk earlier kind earlier_is)
 
--- the tests that a fold passes, together
-pub record Passes (fold : Fold) (columns : List Column) (base_len : ℕ) : Type 0 where
-  pub each_column : length fold.places ≡ length columns
-  pub base_columns : (column : ℕ) → slice_get fold.places column ≡ Some Conv → column < base_len
-  pub few_chunks : length fold.shapes ≤ 16
-  pub each_chunk : (chunk : ℕ) → chunk < length fold.shapes → HasColumn fold.places chunk
-  pub fields : Fit fold.shapes fold.places columns
-  pub apart : AreApart fold.places
-  pub first_fields : AreFirst fold.shapes fold.places
-
-pub valid_from : (fold : Fold) (columns : List Column) (base_len : ℕ) → Passes fold columns base_len → IsValidFold fold columns base_len
-valid_from fold columns base_len passes = record {
-  each_column = passes.each_column;
-  base_columns = passes.base_columns;
-  few_chunks = passes.few_chunks;
-  each_chunk = passes.each_chunk;
-  fields = λ position column chunk field column_is place_is. field_from_kind fold chunk field (chunk_kind column.kind) (passes.fields position column chunk field column_is place_is);
-  apart = passes.apart;
-  first_fields = first_fields_from fold passes.first_fields
+-- a fold that passes the tests, and one that is valid
+pub valid_from : (fold : Fold) (columns : List Column) (base_len : ℕ) → ArePlaced fold.places (length columns) base_len → AreChunks fold.shapes fold.places
+    → AreFields fold.shapes fold.places columns → IsValidFold fold columns base_len
+valid_from fold columns base_len placed chunks fields = record {
+  each_column = placed.0;
+  base_columns = placed.1;
+  few_chunks = chunks.0;
+  each_chunk = chunks.1;
+  fields = λ position column chunk field column_is place_is. field_from_kind fold chunk field (chunk_kind column.kind) (fields.0 position column chunk field column_is place_is);
+  apart = fields.1;
+  first_fields = first_fields_from fold fields.2;
 }
 
-pub passes_from : (fold : Fold) (columns : List Column) (base_len : ℕ) → IsValidFold fold columns base_len → Passes fold columns base_len
-passes_from fold columns base_len valid = record {
-  each_column = valid.each_column;
-  base_columns = valid.base_columns;
-  few_chunks = valid.few_chunks;
-  each_chunk = valid.each_chunk;
-  fields = λ position column chunk field column_is place_is. kind_from_field fold chunk field (chunk_kind column.kind) (valid.fields position column chunk field column_is place_is);
-  apart = valid.apart;
-  first_fields = λ chunk before taken next. valid.first_fields chunk (before + 1) before next.0 taken (field_from_kind fold chunk (before + 1) next.0 next.2) (omega arith) (field_from_kind fold chunk before next.0 next.1)
-}
+pub placed_from : (fold : Fold) (columns : List Column) (base_len : ℕ) → IsValidFold fold columns base_len → ArePlaced fold.places (length columns) base_len
+placed_from fold columns base_len valid = (valid.each_column, valid.base_columns)
+
+pub chunks_from : (fold : Fold) (columns : List Column) (base_len : ℕ) → IsValidFold fold columns base_len → AreChunks fold.shapes fold.places
+chunks_from fold columns base_len valid = (valid.few_chunks, valid.each_chunk)
+
+pub fields_from : (fold : Fold) (columns : List Column) (base_len : ℕ) → IsValidFold fold columns base_len → AreFields fold.shapes fold.places columns
+fields_from fold columns base_len valid = (
+  λ position column chunk field column_is place_is. kind_from_field fold chunk field (chunk_kind column.kind) (valid.fields position column chunk field column_is place_is),
+  valid.apart,
+  λ column chunk field place_is before is next.
+      let used : IsUsed fold chunk (before + 1) = (column, subst (λ f. slice_get fold.places column ≡ Some (Field chunk f)) is place_is) in
+      valid.first_fields chunk (before + 1) before next.0 used (field_from_kind fold chunk (before + 1) next.0 next.2) (omega arith) (field_from_kind fold chunk before next.0 next.1),
+)

@@ -1,7 +1,7 @@
-ghost use Rattle.std.specs.Prelude.{◌≡◌, ◌+◌, ◌<◌, ℕ, length, slice_get, Some};
+ghost use Rattle.std.specs.Prelude.{◌≡◌, ◌<◌, length, Some};
 ghost use Rattle.std.specs.Bool.{Decides};
-ghost use Rattle.mt_fold.specs.declared.fold.Place.TheVariants.{Conv, Field};
-ghost use Rattle.mt_fold.specs.Clauses.{AreApart, AreFirst, Fit, HasColumn, IsNext, IsTaken, kind_at};
+ghost use Rattle.mt_fold.specs.declared.fold.Place.TheVariants.{Field};
+ghost use Rattle.mt_fold.specs.Clauses.{AreApart, AreBase, AreChunks, AreFields, AreFirst, ArePlaced, Fit, Follows, HasColumn, HaveColumns, IsNext, IsTaken, kind_at};
 ghost use Rattle.mt_fold.specs.Folds.{IsValidFold};
 ghost use Rattle.mt_fold.specs.Placements.{IsValidPlacement};
 ghost use Rattle.mt_fold.specs.Shapes.{chunk_kind};
@@ -24,13 +24,9 @@ pub fn valid(fold: &Fold, columns: &Columns, base_len: usize) -> bool
 {
     let shapes = fold.shapes.as_slice();
     let places = fold.places.as_slice();
-    places.len() == columns.len()
-        && base_columns_alone(places, base_len)
-        && shapes.len() <= MOST_CHUNKS
-        && each_chunk_has_a_column(shapes, places)
-        && fields_fit(shapes, places, columns.as_slice())
-        && are_apart(places)
-        && first_fields_first(shapes, places)
+    columns_are_placed(places, columns.as_slice(), base_len)
+        && chunks_are_used(shapes, places)
+        && fields_are_used(shapes, places, columns.as_slice())
 }
 
 /// Whether each fold of the placement fits the columns, its generation is 0 or 1 and, where the table
@@ -58,9 +54,31 @@ pub fn valid_placement(placement: &Placement, columns: &Columns, base_len: usize
     }
 }
 
+/// Whether each column has one place, and only base columns lie in the conventional row.
+fn columns_are_placed(places: &[Place], columns: &[Column], base_len: usize) -> bool
+    ensures { Decides result (ArePlaced places.now (length columns.now) base_len) }
+{
+    places.len() == columns.len() && base_columns_alone(places, base_len)
+}
+
+/// Whether there are at most 16 chunks, each with a column.
+fn chunks_are_used(shapes: &[Shape], places: &[Place]) -> bool
+    ensures { Decides result (AreChunks shapes.now places.now) }
+{
+    shapes.len() <= MOST_CHUNKS && each_chunk_has_a_column(shapes, places)
+}
+
+/// Whether each column in a chunk lies in a field of its kind and of its own, and of the fields of one
+/// sort in a chunk those that are used come first.
+fn fields_are_used(shapes: &[Shape], places: &[Place], columns: &[Column]) -> bool
+    ensures { Decides result (AreFields shapes.now places.now columns.now) }
+{
+    fields_fit(shapes, places, columns) && are_apart(places) && first_fields_first(shapes, places)
+}
+
 /// Whether only base columns lie in the conventional row.
 fn base_columns_alone(places: &[Place], base_len: usize) -> bool
-    ensures { Decides result ((column : ℕ) → slice_get places.now column ≡ Some Conv → column < base_len) }
+    ensures { Decides result (AreBase places.now base_len) }
 {
     for (column, place) in places.iter().enumerate() {
         if let Place::Conv = place {
@@ -74,7 +92,7 @@ fn base_columns_alone(places: &[Place], base_len: usize) -> bool
 
 /// Whether each chunk has a column.
 fn each_chunk_has_a_column(shapes: &[Shape], places: &[Place]) -> bool
-    ensures { Decides result ((chunk : ℕ) → chunk < length shapes.now → HasColumn places.now chunk) }
+    ensures { Decides result (HaveColumns (length shapes.now) places.now) }
 {
     for chunk in 0..shapes.len() {
         if !has_column(places, chunk) {
@@ -163,15 +181,19 @@ fn first_fields_first(shapes: &[Shape], places: &[Place]) -> bool
 {
     for place in places {
         if let Place::Field { chunk, field } = place {
-            if *field > 0 {
-                let before = *field - 1;
-                if is_next(shapes, *chunk, before) && !is_taken(places, *chunk, before) {
-                    return false;
-                }
+            if !follows(shapes, places, *chunk, *field) {
+                return false;
             }
         }
     }
     true
+}
+
+/// Whether a field is the first of its sort in its chunk, or the one before it is used.
+fn follows(shapes: &[Shape], places: &[Place], chunk: u8, field: u8) -> bool
+    ensures { Decides result (Follows shapes.now places.now chunk field) }
+{
+    field == 0 || !is_next(shapes, chunk, field - 1) || is_taken(places, chunk, field - 1)
 }
 
 /// Whether a chunk has that field and, behind it, one of the same sort.

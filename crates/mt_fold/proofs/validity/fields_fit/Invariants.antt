@@ -8,4 +8,4 @@ use Rattle.mt_fold.proofs.validity.fields_fit.Given as goal
 abbrev pub invariant-loop-place : goal.invariant-loop-place
 invariant-loop-place l =
     (position : ℕ) (column : Column) (chunk field : ℕ) → position < length l.yielded → slice_get l.columns position ≡ Some column → slice_get l.places position ≡ Some (Field chunk field)
-        → kind_at l.shapes chunk field ≡ Some (chunk_kind column.kind)
+    → kind_at l.shapes chunk field ≡ Some (chunk_kind column.kind)

@@ -1,8 +1,7 @@
-use Rattle.std.proofs.Common.{◌≡◌, ◌+◌, ◌<◌, ℕ, slice_get, Some}
+use Rattle.std.proofs.Common.{◌≡◌, ◌<◌, ℕ, slice_get, Some}
 use Rattle.mt_fold.specs.declared.fold.Place.TheVariants.{Field}
-use Rattle.mt_fold.specs.Clauses.{IsNext, IsTaken}
+use Rattle.mt_fold.specs.Clauses.{Follows}
 use Rattle.mt_fold.proofs.validity.first_fields_first.Given as goal
 
 abbrev pub invariant-loop-place : goal.invariant-loop-place
-invariant-loop-place l =
-    (column chunk before : ℕ) → column < l.place-index → slice_get l.places column ≡ Some (Field chunk (before + 1)) → IsNext l.shapes chunk before → IsTaken l.places chunk before
+invariant-loop-place l = (column chunk field : ℕ) → column < l.place-index → slice_get l.places column ≡ Some (Field chunk field) → Follows l.shapes l.places chunk field
