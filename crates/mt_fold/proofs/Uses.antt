@@ -1,5 +1,6 @@
 -- Which fields are taken, and the clauses of a valid fold in the words of its tests.
-use Rattle.std.proofs.Common.{◌≡◌, ◌≢◌, ◌⊎◌, ℕ, zero, suc, ◌+◌, ◌-◌, ◌<◌, ◌≤◌, List, [], ◌∷◌, length, take, Option, Some, None, slice_get, option_and_then, refl, sym, ap, subst, inl, inr, arith}
+use Rattle.std.proofs.Common.{◌≡◌, ◌≢◌, ◌⊎◌, ℕ, zero, suc, ◌+◌, ◌-◌, ◌<◌, ◌≤◌, List, [], ◌∷◌, length, take, get_or, Option, Some, None, slice_get, option_and_then, refl, sym, ap, ◌∙◌, subst, subst₂, below_more, inl, inr, arith}
+use Rattle.std.proofs.lemmas.Option.{get_or_from_slice_get, slice_get-get_or}
 use Rattle.std.proofs.lemmas.Bool.{cases_order}
 use Rattle.mt_codec.specs.declared.field.FieldKind.{FieldKind}
 use Rattle.mt_tree.specs.declared.schema.Column.{Column}
@@ -51,6 +52,38 @@ not_apart places n chunk field is taken apart =
     let front = in_whole places n taken.0 (Field chunk field) taken.1 in
     let same : taken.0 ≡ n = apart taken.0 n chunk field front.1 is in
     omega (arith, front.0)
+
+-- the place at an index, as a look-up gives it
+pub place_found : (places : List Place) (n chunk field : ℕ) → n < length places → get_or places n Conv ≡ Field chunk field → slice_get places n ≡ Some (Field chunk field)
+place_found places n chunk field below is = slice_get-get_or places n Conv below ∙ ap Some is
+
+pub at_same_field : (places : List Place) (n chunk field other there : ℕ) (P : ℕ → ℕ → Type 0) → slice_get places n ≡ Some (Field chunk field) → get_or places n Conv ≡ Field other there → P chunk field
+    → P other there
+at_same_field places n chunk field other there P found is holds =
+    let read : get_or places n Conv ≡ Field chunk field = get_or_from_slice_get places n (Field chunk field) Conv found in
+    let same_chunk : chunk ≡ other = cc in
+    let same_field : field ≡ there = cc in
+    subst₂ P same_chunk same_field holds
+
+pub not_conv : (places : List Place) (n chunk field : ℕ) → slice_get places n ≡ Some (Field chunk field) → get_or places n Conv ≡ Conv → ⊥
+not_conv places n chunk field found is =
+    let read : get_or places n Conv ≡ Field chunk field = get_or_from_slice_get places n (Field chunk field) Conv found in
+    cc
+
+-- the first so many columns lie in fields of their kinds, if in chunks
+abbrev pub FitBelow : List Shape → List Place → List Column → ℕ → Type 0
+FitBelow shapes places columns n =
+    (position : ℕ) → position < n → (column : Column) (chunk field : ℕ) → slice_get columns position ≡ Some column → slice_get places position ≡ Some (Field chunk field)
+    → kind_at shapes chunk field ≡ Some (chunk_kind column.kind)
+
+pub fit_more : (shapes : List Shape) (places : List Place) (columns : List Column) (n more : ℕ) (place : Place) (column : Column) → more ≡ n + 1 → slice_get places n ≡ Some place
+    → slice_get columns n ≡ Some column → ((chunk field : ℕ) → place ≡ Field chunk field → kind_at shapes chunk field ≡ Some (chunk_kind column.kind)) → FitBelow shapes places columns n
+    → FitBelow shapes places columns more
+fit_more shapes places columns n more place column more_is place_is column_is fits below =
+    subst (λ k. FitBelow shapes places columns k) (sym more_is) (below_more _ n below (λ other chunk field other_is field_is.
+    let same_column : column ≡ other = cc in
+    let same_place : place ≡ Field chunk field = cc in
+    subst (λ c. kind_at shapes chunk field ≡ Some (chunk_kind c.kind)) same_column (fits chunk field same_place)))
 
 -- a field of a chunk, by what it holds
 pub kind_from_field : (fold : Fold) (chunk field : ℕ) (kind : FieldKind) → IsField fold chunk field kind → kind_at fold.shapes chunk field ≡ Some kind
@@ -115,3 +148,24 @@ fields_from fold columns base_len valid = (
       let used : IsUsed fold chunk (before + 1) = (column, subst (λ f. slice_get fold.places column ≡ Some (Field chunk f)) is place_is) in
       valid.first_fields chunk (before + 1) before next.0 used (field_from_kind fold chunk (before + 1) next.0 next.2) (omega arith) (field_from_kind fold chunk before next.0 next.1),
 )
+
+-- the tests, over the lists that the fold has
+abbrev pub Parts : List Shape → List Place → List Column → ℕ → Type 0
+Parts shapes places columns base_len = ArePlaced places (length columns) base_len × AreChunks shapes places × AreFields shapes places columns
+
+parts_at : (shapes other : List Shape) (places there : List Place) (columns listed : List Column) (base_len : ℕ) → shapes ≡ other → places ≡ there → columns ≡ listed
+    → Parts shapes places columns base_len → Parts other there listed base_len
+parts_at shapes other places there columns listed base_len same_shapes same_places same_columns parts =
+    subst (λ c. Parts other there c base_len) same_columns (subst (λ p. Parts other p columns base_len) same_places (subst (λ s. Parts s places columns base_len) same_shapes parts))
+
+pub valid_by : (fold : Fold) (columns : List Column) (base_len : ℕ) (shapes : List Shape) (places : List Place) (listed : List Column) → shapes ≡ fold.shapes → places ≡ fold.places → listed ≡ columns
+    → Parts shapes places listed base_len → IsValidFold fold columns base_len
+valid_by fold columns base_len shapes places listed same_shapes same_places same_columns parts =
+    let its = parts_at shapes fold.shapes places fold.places listed columns base_len same_shapes same_places same_columns parts in
+    valid_from fold columns base_len its.0 its.1 its.2
+
+pub parts_by : (fold : Fold) (columns : List Column) (base_len : ℕ) (shapes : List Shape) (places : List Place) (listed : List Column) → shapes ≡ fold.shapes → places ≡ fold.places → listed ≡ columns
+    → IsValidFold fold columns base_len → Parts shapes places listed base_len
+parts_by fold columns base_len shapes places listed same_shapes same_places same_columns valid =
+    parts_at fold.shapes shapes fold.places places columns listed base_len (sym same_shapes) (sym same_places) (sym same_columns)
+    (placed_from fold columns base_len valid, chunks_from fold columns base_len valid, fields_from fold columns base_len valid)

@@ -24,9 +24,10 @@ pub fn valid(fold: &Fold, columns: &Columns, base_len: usize) -> bool
 {
     let shapes = fold.shapes.as_slice();
     let places = fold.places.as_slice();
-    columns_are_placed(places, columns.as_slice(), base_len)
+    let columns = columns.as_slice();
+    columns_are_placed(places, columns, base_len)
         && chunks_are_used(shapes, places)
-        && fields_are_used(shapes, places, columns.as_slice())
+        && fields_are_used(shapes, places, columns)
 }
 
 /// Whether each fold of the placement fits the columns, its generation is 0 or 1 and, where the table
