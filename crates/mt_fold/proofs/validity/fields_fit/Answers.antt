@@ -16,7 +16,7 @@ loop-place-preserved-else-not-is_of_kind c =
     let column = c.in-Some.column.now in
     let first : c.into_iter-place-iterator.result.a.rest.now ≡ places = cc in
     let second : c.into_iter-place-iterator.result.b.rest.now ≡ columns = cc in
-    let turn = zip_turn places columns c.loop-place.yielded _ c.loop-place.place-iterator _ _ first second c.loop-place.yielded_by (c.in-Some.place, c.in-Some.column) c.in-Some.is c.next.ensures.steps in
+    let turn = zip_turn places columns c.loop-place.yielded c.into_iter-place-iterator.result c.loop-place.place-iterator c.next.new.self c.next.result first second c.loop-place.yielded_by (c.in-Some.place, c.in-Some.column) c.in-Some.is c.next.ensures.steps in
     let n = length c.loop-place.yielded in
     fit_more shapes places columns n _ place column (length_push c.loop-place.yielded (c.in-Some.place, c.in-Some.column)) (slice_get_read places _ n place refl turn.0 (turn.2 place))
     (slice_get_read columns _ n column refl turn.1 (turn.3 column))
@@ -35,7 +35,7 @@ loop-place-preserved c =
     let column = c.in-Some.column.now in
     let first : c.into_iter-place-iterator.result.a.rest.now ≡ places = cc in
     let second : c.into_iter-place-iterator.result.b.rest.now ≡ columns = cc in
-    let turn = zip_turn places columns c.loop-place.yielded _ c.loop-place.place-iterator _ _ first second c.loop-place.yielded_by (c.in-Some.place, c.in-Some.column) c.in-Some.is c.next.ensures.steps in
+    let turn = zip_turn places columns c.loop-place.yielded c.into_iter-place-iterator.result c.loop-place.place-iterator c.next.new.self c.next.result first second c.loop-place.yielded_by (c.in-Some.place, c.in-Some.column) c.in-Some.is c.next.ensures.steps in
     let n = length c.loop-place.yielded in
     fit_more shapes places columns n _ place column (length_push c.loop-place.yielded (c.in-Some.place, c.in-Some.column)) (slice_get_read places _ n place refl turn.0 (turn.2 place))
     (slice_get_read columns _ n column refl turn.1 (turn.3 column))
@@ -48,7 +48,7 @@ returns c =
     let columns = c.args.columns.now in
     let first : c.into_iter-place-iterator.result.a.rest.now ≡ places = cc in
     let second : c.into_iter-place-iterator.result.b.rest.now ≡ columns = cc in
-    let end = zip_end places columns c.loop-place.yielded _ c.loop-place.place-iterator _ _ first second c.loop-place.yielded_by c.in-None.is c.next.ensures.steps in (
+    let end = zip_end places columns c.loop-place.yielded c.into_iter-place-iterator.result c.loop-place.place-iterator c.next.new.self c.next.result first second c.loop-place.yielded_by c.in-None.is c.next.ensures.steps in (
       λ _ position column chunk field column_is place_is.
           c.loop-place.invariant position (omega (arith, end, slice_get_within places position _ place_is, slice_get_within columns position _ column_is)) column chunk field column_is place_is,
       λ _. refl,
