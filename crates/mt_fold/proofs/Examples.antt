@@ -13,9 +13,13 @@ use Rattle.mt_fold.specs.Folds.{IsField, IsUsed, IsValidFold, place_in}
 use Rattle.mt_fold.specs.Placements.{IsValidPlacement, chunk_number, folded_at}
 use Rattle.mt_fold.specs.Shapes.{fields_of, price}
 
-abbrev id d a : Column
+abbrev id : Column
 id = record { name = codes "id"; kind = Integer; not_null = true; key = true }
+
+abbrev d : Column
 d = record { name = codes "d"; kind = Varchar 20; not_null = false; key = false }
+
+abbrev a : Column
 a = record { name = codes "a"; kind = Integer; not_null = false; key = false }
 
 abbrev columns : List Column

@@ -44,7 +44,7 @@ Fit shapes places columns = (position : ℕ) (column : Column) (chunk field : �
 abbrev pub AreApart : List Place → Type 0
 AreApart places = (a b chunk field : ℕ) → slice_get places a ≡ Some (Field chunk field) → slice_get places b ≡ Some (Field chunk field) → a ≡ b
 
--- A field of a chunk that is not the first of its sort: both it and the field before it are of this kind.
+-- a field of a chunk and the one behind it are of one kind
 abbrev pub IsNext : List Shape → ℕ → ℕ → Type 0
 IsNext shapes chunk before = (kind : FieldKind) × (kind_at shapes chunk before ≡ Some kind) × (kind_at shapes chunk (before + 1) ≡ Some kind)
 
