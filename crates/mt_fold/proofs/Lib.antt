@@ -1,2 +1,5 @@
 pub mod Lists
+pub mod Ascending
+pub mod Thinned
+pub mod Cheapest
 pub mod Determined
