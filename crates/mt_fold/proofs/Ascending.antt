@@ -1,5 +1,5 @@
 -- The lists that are looked through: each ascending one of so many shapes, in the order of a dictionary.
-use Rattle.std.proofs.Common.{◌≡◌, ◌≢◌, ℕ, zero, suc, ◌<◌, ◌≤◌, true, ◌⊎◌, inl, inr, List, [], ◌∷◌, map, length, refl, sym, subst, arith}
+use Rattle.std.proofs.Common.{◌≡◌, ◌≢◌, ℕ, zero, suc, ◌<◌, ◌≤◌, true, inl, inr, List, [], ◌∷◌, map, length, refl, sym, subst, arith}
 use Rattle.std.proofs.lemmas.Bool.{lt-ltb}
 use Rattle.std.specs.Cmp.Lexicographic.{slice_cmp}
 use Rattle.std.specs.List.{AllByRecursion as Each, flat_map}
@@ -128,38 +128,45 @@ lists_of-suc count C4 = refl
 lists_of-suc count C5 = refl
 lists_of-suc count C6 = refl
 
-pub lists_in_order : (count : ℕ) (first : Shape) → InOrder NotAfter (lists_of count (shapes_from first))
-lists_in_order zero first = (tt, tt)
-lists_in_order (suc count) first =
-    subst (InOrder NotAfter) (sym (lists_of-suc count first))
-      ( Each-always (NotAfter []) NotAfter-nil (flat_map (lists_with count) (shapes_from first))
-      , InOrder-flat_map NotAfter Lower (lists_with count) apart (shapes_from first) (shapes_in_order first)
-          (Each-always (λ shape. InOrder NotAfter (lists_with count shape))
-            (λ shape. InOrder-map NotAfter NotAfter (λ list. shape ∷ list) (NotAfter-cons shape) (lists_of count (shapes_from shape)) (lists_in_order count shape))
-            (shapes_from first)))
-  where
-    apart : (shape next : Shape) → Lower shape next → Each (λ list. Each (NotAfter list) (lists_with count next)) (lists_with count shape)
-    apart shape next lower =
-        Each-map (λ list. Each (NotAfter list) (lists_with count next)) (λ list. shape ∷ list) (lists_of count (shapes_from shape))
-          (Each-always (λ list. Each (NotAfter (shape ∷ list)) (lists_with count next))
-            (λ list. Each-map (NotAfter (shape ∷ list)) (λ other. next ∷ other) (lists_of count (shapes_from next))
-              (Each-always (λ other. NotAfter (shape ∷ list) (next ∷ other)) (λ other. NotAfter-lower shape next lower list other) (lists_of count (shapes_from next))))
-            (lists_of count (shapes_from shape)))
+always_with : (P : List Shape → Type 0) (count : ℕ) (shape : Shape) → ((list : List Shape) → P (shape ∷ list)) → Each P (lists_with count shape)
+always_with P count shape always =
+    Each-map P (λ list. shape ∷ list) (lists_of count (shapes_from shape)) (Each-always (λ list. P (shape ∷ list)) always (lists_of count (shapes_from shape)))
+
+lists_apart : (count : ℕ) (shape next : Shape) → Lower shape next → Each (λ list. Each (NotAfter list) (lists_with count next)) (lists_with count shape)
+lists_apart count shape next lower =
+    always_with (λ list. Each (NotAfter list) (lists_with count next)) count shape (λ list.
+    always_with (NotAfter (shape ∷ list)) count next (λ other. NotAfter-lower shape next lower list other))
+
+lists_with_in_order : (count : ℕ) (shape : Shape) → InOrder NotAfter (lists_of count (shapes_from shape)) → InOrder NotAfter (lists_with count shape)
+lists_with_in_order count shape order = InOrder-map NotAfter NotAfter (λ list. shape ∷ list) (NotAfter-cons shape) (lists_of count (shapes_from shape)) order
+
+lists_from_in_order : (count : ℕ) (first : Shape) → InOrder NotAfter (lists_of count (shapes_from first))
+lists_from_in_order zero first = (tt, tt)
+lists_from_in_order (suc count) first =
+    let each = Each-always (λ shape. InOrder NotAfter (lists_with count shape)) (λ shape. lists_with_in_order count shape (lists_from_in_order count shape)) (shapes_from first) in
+    subst (InOrder NotAfter) (sym (lists_of-suc count first)) (
+      Each-always (NotAfter []) NotAfter-nil (flat_map (lists_with count) (shapes_from first)),
+      InOrder-flat_map NotAfter Lower (lists_with count) (lists_apart count) (shapes_from first) (shapes_in_order first) each,
+    )
+
+pub lists_in_order : (count : ℕ) → InOrder NotAfter (lists_of count all_shapes)
+lists_in_order count = lists_from_in_order count C1
 
 abbrev AscendsFrom : Shape → List Shape → Type 0
 AscendsFrom first list = Above first list × Ascends list
 
+lists_with_ascend : (count : ℕ) (first shape : Shape) → shape_table first ≤ shape_table shape → Each (AscendsFrom shape) (lists_of count (shapes_from shape)) → Each (AscendsFrom first) (lists_with count shape)
+lists_with_ascend count first shape above each =
+    let more : (list : List Shape) → AscendsFrom shape list → AscendsFrom first (shape ∷ list) = λ list ascends. (above, Ascends-cons shape list ascends.0 ascends.1) in
+    let ascend = Each-weaker (AscendsFrom shape) (λ list. AscendsFrom first (shape ∷ list)) more (lists_of count (shapes_from shape)) each in
+    Each-map (AscendsFrom first) (λ list. shape ∷ list) (lists_of count (shapes_from shape)) ascend
+
 lists_ascend_from : (count : ℕ) (first : Shape) → Each (AscendsFrom first) (lists_of count (shapes_from first))
 lists_ascend_from zero first = ((tt, tt), tt)
 lists_ascend_from (suc count) first =
-    subst (Each (AscendsFrom first)) (sym (lists_of-suc count first))
-      ( (tt, tt)
-      , Each-flat_map (AscendsFrom first) (lists_with count) (shapes_from first)
-          (Each-weaker (λ shape. shape_table first ≤ shape_table shape) (λ shape. Each (AscendsFrom first) (lists_with count shape))
-            (λ shape above. Each-map (AscendsFrom first) (λ list. shape ∷ list) (lists_of count (shapes_from shape))
-              (Each-weaker (AscendsFrom shape) (λ list. AscendsFrom first (shape ∷ list)) (λ list ascends. (above, Ascends-cons shape list ascends.0 ascends.1))
-                (lists_of count (shapes_from shape)) (lists_ascend_from count shape)))
-            (shapes_from first) (shapes_above first)))
+    let with_one = λ (shape : Shape) (above : shape_table first ≤ shape_table shape). lists_with_ascend count first shape above (lists_ascend_from count shape) in
+    let each = Each-weaker (λ shape. shape_table first ≤ shape_table shape) (λ shape. Each (AscendsFrom first) (lists_with count shape)) with_one (shapes_from first) (shapes_above first) in
+    subst (Each (AscendsFrom first)) (sym (lists_of-suc count first)) ((tt, tt), Each-flat_map (AscendsFrom first) (lists_with count) (shapes_from first) each)
 
 pub lists_ascend : (count : ℕ) → Each Ascends (lists_of count all_shapes)
 lists_ascend count = Each-weaker (AscendsFrom C1) Ascends (λ list ascends. ascends.1) (lists_of count all_shapes) (lists_ascend_from count C1)
@@ -170,9 +177,10 @@ listed_from zero first (shape ∷ list) few above ascends = absurd (omega arith)
 listed_from (suc count) first [] few above ascends = subst (Among []) (sym (lists_of-suc count first)) (inl refl)
 listed_from (suc count) first (shape ∷ list) few above ascends =
     let parts = Ascends-parts shape list ascends in
-    subst (Among (shape ∷ list)) (sym (lists_of-suc count first))
-      (inr (Among-flat_map (lists_with count) (shape ∷ list) shape (shapes_from first) (shape_among first shape above)
-        (Among-map (λ rest. shape ∷ rest) list (lists_of count (shapes_from shape)) (listed_from count shape list (omega arith) parts.0 parts.1))))
+    let rest = listed_from count shape list (omega arith) parts.0 parts.1 in
+    let within = Among-map (λ other. shape ∷ other) list (lists_of count (shapes_from shape)) rest in
+    let among = Among-flat_map (lists_with count) (shape ∷ list) shape (shapes_from first) (shape_among first shape above) within in
+    subst (Among (shape ∷ list)) (sym (lists_of-suc count first)) (inr among)
 
 pub listed : (count : ℕ) (list : List Shape) → length list ≤ count → Ascends list → Among list (lists_of count all_shapes)
 listed count [] few ascends = listed_from count C1 [] few tt ascends

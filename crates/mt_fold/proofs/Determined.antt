@@ -1,10 +1,9 @@
 -- Two covers of so many columns are one list.
-use Rattle.std.proofs.Common.{◌≡◌, ◌≢◌, ℕ, ◌≤◌, ◌==◌, if◌then◌else◌, List, [], ◌∷◌, map, refl, sym, ap, ap₂, ◌∙◌, arith}
+use Rattle.std.proofs.Common.{◌≡◌, ◌≢◌, ℕ, ◌==◌, if◌then◌else◌, List, [], ◌∷◌, map, refl, sym, ap, ap₂, ◌∙◌, arith}
 use Rattle.std.proofs.lemmas.Cmp.{nat_list_cmp_total}
 use Rattle.std.proofs.lemmas.Map.Lookups.{exact_bytes}
 use Rattle.std.proofs.Math.Nat.{le_antisymm}
-use Rattle.std.specs.Cmp.Lexicographic.{slice_cmp}
-use Rattle.std.specs.Ordering.{nat_cmp, ordering_reverse}
+use Rattle.std.specs.Ordering.{ordering_reverse}
 use Rattle.std.specs.declared.cmp.Ordering.{Ordering}
 use Rattle.std.specs.declared.cmp.Ordering.TheVariants.{Less, Equal, Greater}
 use Rattle.mt_fold.specs.declared.shape.Shape.{Shape}
@@ -48,6 +47,6 @@ pub covers_determined : (numbers texts : ℕ) (shapes other : List Shape) → Is
 covers_determined numbers texts shapes other one two =
     let as_dear : price other ≡ price shapes = le_antisymm (two.cheapest shapes one.holds) (one.cheapest other two.holds) in
     same_shapes shapes other (exact_bytes _ _ (neither_greater _ _
-        (nat_list_cmp_total.antisymm (map shape_table shapes) (map shape_table other))
-        (one.first other two.holds two.ascends as_dear)
-        (two.first shapes one.holds one.ascends (sym as_dear))))
+    (nat_list_cmp_total.antisymm (map shape_table shapes) (map shape_table other))
+    (one.first other two.holds two.ascends as_dear)
+    (two.first shapes one.holds one.ascends (sym as_dear))))

@@ -1,7 +1,7 @@
 -- Each chunk of a cover gets a column: where one got none, the others would hold as many for less.
 use Rattle.std.proofs.Common.{◌≡◌, ℕ, zero, suc, ◌+◌, ◌<◌, ◌≤◌, Bool, true, false, cond, inl, inr, List, [], ◌∷◌, ◌++◌, length, get_or, take, count_by, sum_by, Some, refl, sym, ap, ap₂, ◌∙◌, subst, append_assoc, arith}
 use Rattle.std.proofs.Math.Path.{fun_ext}
-use Rattle.std.proofs.lemmas.Bool.{cases_lt, cond-true, cond-false}
+use Rattle.std.proofs.lemmas.Bool.{cases_lt, cond-true, cond-false, false≢true}
 use Rattle.std.proofs.lemmas.List.{get_or-append-add, get_or_append_left, length-append}
 use Rattle.std.proofs.lemmas.List.FromFn.{get_or-map-range_with_len, length-map-range_with_len}
 use Rattle.std.proofs.lemmas.List.Sums.{sum_by-append, sum_by-cons}
@@ -9,18 +9,13 @@ use Rattle.std.proofs.lemmas.Option.{slice_get-get_or}
 use Rattle.std.specs.Prelude.{slice_get}
 use Rattle.mt_codec.specs.declared.field.FieldKind.{FieldKind}
 use Rattle.mt_codec.specs.declared.field.FieldKind.TheVariants.{Int, Text}
-use Rattle.mt_fold.specs.declared.fold.Place.{Place}
 use Rattle.mt_fold.specs.declared.fold.Place.TheVariants.{Conv, Field}
 use Rattle.mt_fold.specs.declared.shape.Shape.{Shape}
 use Rattle.mt_fold.specs.declared.shape.Shape.TheVariants.{C1, C2, C3, C4, C5, C6}
 use Rattle.mt_fold.specs.Covers.{Holds, IsCover}
 use Rattle.mt_fold.specs.Extended.{FillShapes, place_taken, places_from, places_in, places_taken}
 use Rattle.mt_fold.specs.Shapes.{fields_of, price, price_of, same_sort}
-use Rattle.mt_fold.proofs.Thinned.{price_positive}
-
--- how many fields of a sort a chunk has
-abbrev fields_for : FieldKind → Shape → ℕ
-fields_for kind shape = count_by (same_sort kind) (fields_of shape)
+use Rattle.mt_fold.proofs.Thinned.{fields_for, price_positive}
 
 -- texts are of one sort, whatever their sizes
 same_texts : (size other : ℕ) → same_sort (Text size) ≡ same_sort (Text other)
@@ -32,14 +27,8 @@ same_texts size other = fun_ext each
 
 same_tests : (kind other : FieldKind) → same_sort kind other ≡ true → same_sort other ≡ same_sort kind
 same_tests Int Int same = refl
-same_tests Int (Text size) same = absurd (by same)
-  where
-    by : false ≡ true → ⊥
-    by h = cc
-same_tests (Text size) Int same = absurd (by same)
-  where
-    by : false ≡ true → ⊥
-    by h = cc
+same_tests Int (Text size) same = absurd (false≢true same)
+same_tests (Text size) Int same = absurd (false≢true same)
 same_tests (Text size) (Text other) same = same_texts other size
 
 places_in_texts : (size other chunk : ℕ) (shape : Shape) → places_in (Text size) chunk shape ≡ places_in (Text other) chunk shape
@@ -56,14 +45,8 @@ places_from_texts size other chunk (shape ∷ shapes) = ap₂ (◌++◌) (places
 
 same_places : (kind other : FieldKind) → same_sort kind other ≡ true → (chunk : ℕ) (shapes : List Shape) → places_from other chunk shapes ≡ places_from kind chunk shapes
 same_places Int Int same chunk shapes = refl
-same_places Int (Text size) same chunk shapes = absurd (by same)
-  where
-    by : false ≡ true → ⊥
-    by h = cc
-same_places (Text size) Int same chunk shapes = absurd (by same)
-  where
-    by : false ≡ true → ⊥
-    by h = cc
+same_places Int (Text size) same chunk shapes = absurd (false≢true same)
+same_places (Text size) Int same chunk shapes = absurd (false≢true same)
 same_places (Text size) (Text other) same chunk shapes = places_from_texts other size chunk shapes
 
 length-places_in : (kind : FieldKind) (chunk : ℕ) (shape : Shape) → length (places_in kind chunk shape) ≡ fields_for kind shape
@@ -130,6 +113,7 @@ next_passing test (kind ∷ kinds) before more = by (test kind) refl before (nex
   where
     whole : before < count_by test (kind ∷ kinds) → before < cond (test kind) 1 0 + count_by test kinds
     whole below = subst (λ count. before < count) (sum_by-cons (λ k. cond (test k) 1 0) kind kinds) below
+
     by : (passes : Bool) → test kind ≡ passes → (count : ℕ) → ((rest : ℕ) → rest < count_by test kinds → Passing test kinds rest) → count < cond (test kind) 1 0 + count_by test kinds → Passing test (kind ∷ kinds) count
     by true is zero next more = record { place = 0; within = omega arith; passes = is; counted = refl }
     by true is (suc count) next more =
@@ -144,7 +128,7 @@ place_at : (kind : FieldKind) (kinds : List FieldKind) (before : ℕ) (shapes : 
     → place_taken 0 shapes kinds p.place ≡ get_or (places_from kind 0 shapes) before Conv
 place_at kind kinds before shapes p =
     ap₂ (λ places at. get_or places at Conv) (same_places kind (get_or kinds p.place Int) p.passes 0 shapes)
-      (ap (λ test. count_by test (take p.place kinds)) (same_tests kind (get_or kinds p.place Int) p.passes) ∙ p.counted)
+    (ap (λ test. count_by test (take p.place kinds)) (same_tests kind (get_or kinds p.place Int) p.passes) ∙ p.counted)
 
 -- A chunk without which there are too few fields of a sort gets a column of it.
 gets_column : (kind : FieldKind) (kinds : List FieldKind) (front : List Shape) (shape : Shape) (back : List Shape)
@@ -152,10 +136,9 @@ gets_column : (kind : FieldKind) (kinds : List FieldKind) (front : List Shape) (
     → (column field : ℕ) × (slice_get (places_taken 0 (front ++ shape ∷ back) kinds) column ≡ Some (Field (length front) field))
 gets_column kind kinds front shape back enough few = (p.place, place.0, found)
   where
-    shapes : List Shape
-    shapes = front ++ shape ∷ back
     before : ℕ
     before = length (places_from kind 0 front)
+
     fields : (before < count_by (same_sort kind) kinds) × (0 < fields_for kind shape)
     fields =
         let all = sum_by-append (fields_for kind) front (shape ∷ back) in
@@ -163,12 +146,16 @@ gets_column kind kinds front shape back enough few = (p.place, place.0, found)
         let one = sum_by-cons (fields_for kind) shape back in
         let long = length-places_from kind 0 front in
         (omega arith, omega arith)
+
     p : Passing (same_sort kind) kinds before
     p = next_passing (same_sort kind) kinds before fields.0
+
     place : (field : ℕ) × (get_or (places_in kind (length front) shape) 0 Conv ≡ Field (length front) field)
     place = first_place kind (length front) shape fields.1
+
     some : 0 < length (places_in kind (length front) shape)
     some = let long = length-places_in kind (length front) shape in let more = fields.1 in omega arith
+
     taken : get_or (places_from kind 0 (front ++ shape ∷ back)) before Conv ≡ Field (length front) place.0
     taken =
         ap (λ places. get_or places before Conv) (places_from-append kind 0 (length front) front shape back (omega arith))
@@ -179,13 +166,13 @@ gets_column kind kinds front shape back enough few = (p.place, place.0, found)
       where
         same : before ≡ length (places_from kind 0 front) + 0
         same = omega arith
+
     found : slice_get (places_taken 0 (front ++ shape ∷ back) kinds) p.place ≡ Some (Field (length front) place.0)
     found =
-        let of : ℕ → Place = place_taken 0 (front ++ shape ∷ back) kinds in
         let below : p.place < length (places_taken 0 (front ++ shape ∷ back) kinds) = rw (length-map-range_with_len (place_taken 0 (front ++ shape ∷ back) kinds) 0 (length kinds)) p.within in
         slice_get-get_or (places_taken 0 (front ++ shape ∷ back) kinds) p.place Conv below
         ∙ ap (λ place. Some place) (get_or-map-range_with_len (place_taken 0 (front ++ shape ∷ back) kinds) 0 (length kinds) p.place p.place Conv p.within (omega arith)
-          ∙ place_at kind kinds before (front ++ shape ∷ back) p ∙ taken)
+        ∙ place_at kind kinds before (front ++ shape ∷ back) p ∙ taken)
 
 -- a list at one of its elements
 record Split (shapes : List Shape) (at : ℕ) : Type 0 where
@@ -209,11 +196,13 @@ IsCoverOf kinds shapes = IsCover (count_by (same_sort Int) kinds) (count_by (sam
 chunk_gets_column : (kinds : List FieldKind) (front : List Shape) (shape : Shape) (back : List Shape) → IsCoverOf kinds (front ++ shape ∷ back)
     → (column field : ℕ) × (slice_get (places_taken 0 (front ++ shape ∷ back) kinds) column ≡ Some (Field (length front) field))
 chunk_gets_column kinds front shape back cover =
-    elim (cases_lt (sum_by (fields_for Int) (front ++ back)) (count_by (same_sort Int) kinds))
-      [ inl few ↦ gets_column Int kinds front shape back cover.holds.0 few
-      | inr numbers ↦ elim (cases_lt (sum_by (fields_for (Text 120)) (front ++ back)) (count_by (same_sort (Text 120)) kinds))
-          [ inl few ↦ gets_column (Text 120) kinds front shape back cover.holds.1 few
-          | inr texts ↦ absurd (dear (cover.cheapest (front ++ back) (numbers, texts))) ] ]
+    elim (cases_lt (sum_by (fields_for Int) (front ++ back)) (count_by (same_sort Int) kinds)) [
+      | inl few ↦ gets_column Int kinds front shape back cover.holds.0 few
+      | inr numbers ↦ elim (cases_lt (sum_by (fields_for (Text 120)) (front ++ back)) (count_by (same_sort (Text 120)) kinds)) [
+        | inl few ↦ gets_column (Text 120) kinds front shape back cover.holds.1 few
+        | inr texts ↦ absurd (dear (cover.cheapest (front ++ back) (numbers, texts)))
+      ]
+    ]
   where
     dear : price (front ++ shape ∷ back) ≤ price (front ++ back) → ⊥
     dear cheap =
@@ -228,7 +217,7 @@ has_room : (kinds : List FieldKind) (shapes : List Shape) → Holds (count_by (s
 has_room kinds shapes enough Int = let long = length-places_from Int 0 shapes in let numbers = enough.0 in omega arith
 has_room kinds shapes enough (Text size) =
     subst (λ long. count_by (same_sort (Text size)) kinds ≤ long) (sym (length-places_from (Text size) 0 shapes))
-      (subst (λ test. count_by test kinds ≤ sum_by (λ shape. count_by test (fields_of shape)) shapes) (same_texts 120 size) enough.1)
+    (subst (λ test. count_by test kinds ≤ sum_by (λ shape. count_by test (fields_of shape)) shapes) (same_texts 120 size) enough.1)
 
 pub cover_is_filled : (kinds : List FieldKind) (shapes : List Shape) → IsCoverOf kinds shapes → FillShapes kinds shapes
 cover_is_filled kinds shapes cover = record { room = has_room kinds shapes cover.holds; each_chunk = each }
@@ -237,5 +226,5 @@ cover_is_filled kinds shapes cover = record { room = has_room kinds shapes cover
     each chunk below =
         let split = split_at shapes chunk below in
         subst (λ number. (column field : ℕ) × (slice_get (places_taken 0 shapes kinds) column ≡ Some (Field number field))) split.long
-          (subst (λ list. (column field : ℕ) × (slice_get (places_taken 0 list kinds) column ≡ Some (Field (length split.front) field))) (sym split.whole)
-            (chunk_gets_column kinds split.front split.shape split.back (subst (IsCoverOf kinds) split.whole cover)))
+        (subst (λ list. (column field : ℕ) × (slice_get (places_taken 0 list kinds) column ≡ Some (Field (length split.front) field))) (sym split.whole)
+        (chunk_gets_column kinds split.front split.shape split.back (subst (IsCoverOf kinds) split.whole cover)))

@@ -1,7 +1,7 @@
 -- Lists: what holds of each element, that one is among them, and that they stand in an order.
-use Rattle.std.proofs.Common.{◌≡◌, ℕ, Bool, true, false, cond, ◌⊎◌, inl, inr, List, [], ◌∷◌, ◌++◌, map, refl, sym, ap, ◌∙◌, subst}
+use Rattle.std.proofs.Common.{◌≡◌, Bool, true, ◌⊎◌, inl, inr, List, [], ◌∷◌, ◌++◌, map, sym, ap, ◌∙◌, subst}
 use Rattle.std.specs.List.{AllByRecursion as Each, filter, flat_map}
-use Rattle.std.proofs.lemmas.Bool.{cond_both}
+use Rattle.std.proofs.lemmas.Bool.{cond_both, true≢false}
 
 -- one of the elements
 abbrev pub Among : {X : Type 0} → X → List X → Type 0
@@ -59,10 +59,7 @@ module _ {X : Type 0} where
   pub Among-filter : (test : X → Bool) (x : X) (xs : List X) → test x ≡ true → Among x xs → Among x (filter test xs)
   Among-filter test x [] passes among = absurd among
   Among-filter test x (y ∷ ys) passes (inl same) =
-      cond_both (test y) (y ∷ filter test ys) (filter test ys) (Among x) (λ also. inl same) (λ fails. absurd (by (sym passes ∙ ap test same ∙ fails)))
-    where
-      by : true ≡ false → ⊥
-      by same = cc
+      cond_both (test y) (y ∷ filter test ys) (filter test ys) (Among x) (λ also. inl same) (λ fails. absurd (true≢false (sym passes ∙ ap test same ∙ fails)))
   Among-filter test x (y ∷ ys) passes (inr among) =
       let rest : Among x (filter test ys) = Among-filter test x ys passes among in
       cond_both (test y) (y ∷ filter test ys) (filter test ys) (Among x) (λ also. inr rest) (λ fails. rest)
@@ -107,11 +104,11 @@ module _ {X Y : Type 0} where
   across R us f [] each = Each-always (λ u. Each (R u) []) (λ u. tt) us
   across R us f (x ∷ xs) each =
       Each-both (λ u. Each (R u) (f x)) (λ u. Each (R u) (flat_map f xs)) (λ u. Each (R u) (f x ++ flat_map f xs))
-        (λ u first rest. Each-append (R u) (f x) (flat_map f xs) first rest) us each.0 (across R us f xs each.1)
+      (λ u first rest. Each-append (R u) (f x) (flat_map f xs) first rest) us each.0 (across R us f xs each.1)
 
   pub InOrder-flat_map : (R : Y → Y → Type 0) (S : X → X → Type 0) (f : X → List Y) → ((a b : X) → S a b → Each (λ u. Each (R u) (f b)) (f a))
       → (xs : List X) → InOrder S xs → Each (λ x. InOrder R (f x)) xs → InOrder R (flat_map f xs)
   InOrder-flat_map R S f apart [] order each = tt
   InOrder-flat_map R S f apart (x ∷ xs) order each =
       InOrder-append R (f x) (flat_map f xs) each.0 (InOrder-flat_map R S f apart xs order.1 each.1)
-        (across R (f x) f xs (Each-weaker (S x) (λ b. Each (λ u. Each (R u) (f b)) (f x)) (apart x) xs order.0))
+      (across R (f x) f xs (Each-weaker (S x) (λ b. Each (λ u. Each (R u) (f b)) (f x)) (apart x) xs order.0))
