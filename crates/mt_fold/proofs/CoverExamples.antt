@@ -1,6 +1,5 @@
 -- Worked examples: the covers of a few columns.
-use Rattle.std.proofs.Common.{◌≡◌, List, [], ◌∷◌, refl}
-use Rattle.mt_fold.specs.declared.shape.Shape.{Shape}
+use Rattle.std.proofs.Common.{◌≡◌, [], ◌∷◌, refl}
 use Rattle.mt_fold.specs.declared.shape.Shape.TheVariants.{C1, C3, C4}
 use Rattle.mt_fold.specs.Covers.{cover_of}
 use Rattle.mt_fold.specs.Shapes.{price}
