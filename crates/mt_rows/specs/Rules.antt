@@ -1,5 +1,5 @@
 -- The rules that the slots of a tenant's table keep.
-use Rattle.std.specs.Prelude.{◌≡◌, ℕ, ◌+◌, ◌≤◌, ◌<◌, Bool, false, List, length, map, slice_get, take, Some}
+use Rattle.std.specs.Prelude.{◌≡◌, ℕ, ◌≤◌, ◌<◌, false, List, map, slice_get, take, Some}
 use Rattle.mt_codec.specs.declared.field.FieldKind.{FieldKind}
 use Rattle.mt_codec.specs.declared.field.FieldKind.TheVariants as field_kinds
 use Rattle.mt_rowfile.specs.declared.slot.SlotRow.{SlotRow}

@@ -1,5 +1,5 @@
 -- The slots of physical tables as they are found by their identifiers and Row.
-use Rattle.std.specs.Prelude.{ℕ, ◌+◌, ◌*◌, Bool, ◌&&◌, nat_eq, List, Option, option_map}
+use Rattle.std.specs.Prelude.{ℕ, ◌+◌, Bool, ◌&&◌, nat_eq, List, Option, option_map}
 use Rattle.std.specs.FinMap as finite
 use Rattle.mt_rowfile.specs.declared.slot.SlotRow.{SlotRow}
 use Rattle.mt_physplan.specs.declared.key.Key.{Key}
@@ -7,7 +7,6 @@ use Rattle.mt_physplan.specs.declared.scan.Scan.{Scan}
 use Rattle.mt_physplan.specs.Content.{Content, slots_in_order}
 use Rattle.mt_physplan.specs.Keys.{slot_in}
 use Rattle.mt_fold.specs.declared.shape.Shape.{Shape}
-use Rattle.mt_fold.specs.Placements.{Folded, chunk_number}
 use Rattle.mt_fold.specs.Shapes.{shape_table}
 
 -- The identifiers that the anchors of a tenant's table share, or the rows of one of its chunks. The

@@ -1,11 +1,10 @@
-ghost use Rattle.std.specs.Prelude.{◌≡◌, ◌<◌, ◌≤◌, ◌+◌, ◌-◌, ◌++◌, ℕ, List, Some, filter_map, length, map, option_map, replicate};
+ghost use Rattle.std.specs.Prelude.{◌≡◌, ◌<◌, ◌+◌, ◌++◌, ℕ, List, Some, filter_map, length, map, option_map, replicate};
 ghost use Rattle.std.specs.List.{range_with_len};
 ghost use Rattle.mt_value.specs.declared.value.Value.TheVariants as value;
 ghost use Rattle.mt_rowfile.specs.declared.slot.SlotRow.{SlotRow};
 ghost use Rattle.mt_physplan.specs.declared.change.Change.{Change};
 ghost use Rattle.mt_physplan.specs.Applied.{applied};
 ghost use Rattle.mt_physplan.specs.Content.{Content, scanned};
-ghost use Rattle.mt_codec.specs.declared.field.FieldKind.{FieldKind};
 ghost use Rattle.mt_tree.specs.declared.schema.Column.{Column};
 ghost use Rattle.mt_fold.specs.declared.fold.Fold.{Fold};
 ghost use Rattle.mt_fold.specs.declared.fold.Placement.TheVariants.{Settled};
@@ -13,7 +12,7 @@ ghost use Rattle.mt_fold.specs.declared.shape.Shape.{Shape};
 ghost use Rattle.mt_fold.specs.Extended.{FillShapes, extended_fold, kinds_of};
 ghost use Rattle.mt_fold.specs.Folds.{IsValidFold};
 ghost use Rattle.mt_rows.specs.Assembled.{Kept, assembled, row_of};
-ghost use Rattle.mt_rows.specs.Changes.{AreApplied, after_changes};
+ghost use Rattle.mt_rows.specs.Changes.{AreApplied};
 ghost use Rattle.mt_rows.specs.Rules.{KeepsRules};
 ghost use Rattle.mt_rows.specs.Series.{Series, anchors_of, scan_of, slot_at, slots_of};
 
