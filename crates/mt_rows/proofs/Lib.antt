@@ -1,3 +1,4 @@
 mod Places
 mod Changed
 mod ByRow
+mod NullEnds
