@@ -2,3 +2,4 @@ mod Places
 mod Changed
 mod ByRow
 mod NullEnds
+mod Examples

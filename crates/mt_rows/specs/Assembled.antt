@@ -1,6 +1,6 @@
 -- The rows of a tenant's table as its slots hold them: an anchor for each, and beside it the rows of
 -- the chunks in which its columns lie.
-use Rattle.std.specs.Prelude.{ℕ, ◌==◌, Bool, List, length, map, slice_get, slice_index_or, Option, Some, None}
+use Rattle.std.specs.Prelude.{ℕ, ◌==◌, List, length, map, slice_get, slice_index_or, Option, Some, None}
 use Rattle.std.specs.List.{range_with_len}
 use Rattle.mt_value.specs.declared.value.Value.{Value}
 use Rattle.mt_value.specs.declared.value.Value.TheVariants as value
