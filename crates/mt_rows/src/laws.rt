@@ -42,7 +42,7 @@ pub fn extended_rows_end_in_nulls()
         → IsValidFold fold columns base_len → FillShapes (kinds_of added) shapes
         → KeepsRules content (record { tenant = tenant; base = base; placement = Settled generation fold }) columns base_len made
         → assembled content (record { tenant = tenant; base = base; placement = Settled generation (extended_fold fold (kinds_of added) shapes) })
-          ≡ map (λ row. record { visible = row.visible; values = row.values ++ replicate (length added) value.Null }) (assembled content (record { tenant = tenant; base = base; placement = Settled generation fold })) }
+        ≡ map (λ row. record { visible = row.visible; values = row.values ++ replicate (length added) value.Null }) (assembled content (record { tenant = tenant; base = base; placement = Settled generation fold })) }
 {}
 
 /// Applied changes do to each place what they say of it. It does nothing.
