@@ -1,0 +1,5 @@
+mod Places
+mod Changed
+mod ByRow
+mod NullEnds
+mod Examples

@@ -1,0 +1,4 @@
+pub mod Assembled
+pub mod Changes
+pub mod Rules
+pub mod Series
