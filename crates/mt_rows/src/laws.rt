@@ -10,7 +10,6 @@ ghost use Rattle.mt_fold.specs.declared.fold.Fold.{Fold};
 ghost use Rattle.mt_fold.specs.declared.fold.Placement.TheVariants.{Settled};
 ghost use Rattle.mt_fold.specs.declared.shape.Shape.{Shape};
 ghost use Rattle.mt_fold.specs.Extended.{FillShapes, extended_fold, kinds_of};
-ghost use Rattle.mt_fold.specs.Folds.{IsValidFold};
 ghost use Rattle.mt_rows.specs.Assembled.{Kept, assembled, row_of};
 ghost use Rattle.mt_rows.specs.Changes.{AreApplied};
 ghost use Rattle.mt_rows.specs.Rules.{KeepsRules};
@@ -39,7 +38,7 @@ pub fn rows_stand_by_anchors()
 /// these, and is as it was before. It does nothing.
 pub fn extended_rows_end_in_nulls()
     ensures { (content : Content) (tenant base generation : ℕ) (fold : Fold) (columns added : List Column) (base_len made : ℕ) (shapes : List Shape)
-        → IsValidFold fold columns base_len → FillShapes (kinds_of added) shapes
+        → FillShapes (kinds_of added) shapes
         → KeepsRules content (record { tenant = tenant; base = base; placement = Settled generation fold }) columns base_len made
         → assembled content (record { tenant = tenant; base = base; placement = Settled generation (extended_fold fold (kinds_of added) shapes) })
         ≡ map (λ row. record { visible = row.visible; values = row.values ++ replicate (length added) value.Null }) (assembled content (record { tenant = tenant; base = base; placement = Settled generation fold })) }

@@ -10,7 +10,7 @@ use Rattle.mt_rows.proofs.NullEnds.{rows_extended}
 use Rattle.mt_rows.proofs.laws.extended_rows_end_in_nulls.Goals as goal
 
 pub returns : goal.returns
-returns c = λ content tenant base generation fold columns added base_len made shapes valid fill rules.
+returns c = λ content tenant base generation fold columns added base_len made shapes fill rules.
     rows_extended content tenant base generation fold (kinds_of added) shapes columns base_len made rules fill
     ∙ ap (λ n. map (λ row. record { visible = row.visible; values = row.values ++ replicate n Null }) (assembled content (record { tenant = tenant; base = base; placement = Settled generation fold })))
     (length-map added (λ column. chunk_kind column.kind))
