@@ -10,6 +10,7 @@ ghost use Rattle.mt_chunkstore.specs.Changes.{IsSuited};
 ghost use Rattle.mt_chunkstore.specs.Staged.{IsStaged};
 ghost use Rattle.mt_chunkstore.specs.Standing.{Stands};
 
+use self::Step::{Put, PutChunk, PutQuota, Remove, RemoveQuota, Trash};
 use crate::lending::look_twice;
 use crate::tests::{list_of, one_integer};
 use crate::{Lent, Staged, Store, StoreFault, TableSize};
@@ -134,32 +135,32 @@ fn change(alloc: Global, step: Step) -> Result<Change, AllocError>
 {
     let tenant = 1;
     Ok(match step {
-        Step::Put(row) => Change::Put {
+        Put(row) => Change::Put {
             table: 16,
             slot: slot(alloc, 0, 0, row)?,
         },
-        Step::Trash(row) => Change::Mark {
+        Trash(row) => Change::Mark {
             table: 16,
             tenant,
             row,
             mark: 2,
         },
-        Step::Remove(row) => Change::Remove {
+        Remove(row) => Change::Remove {
             table: 16,
             tenant,
             base: 0,
             chunk: 0,
             row,
         },
-        Step::PutChunk(row) => Change::Put {
+        PutChunk(row) => Change::Put {
             table: 1,
             slot: slot(alloc, 2, 3, row)?,
         },
-        Step::PutQuota => Change::PutCat {
+        PutQuota => Change::PutCat {
             table: 10,
             body: list_of(alloc, &QUOTA[9..17])?,
         },
-        Step::RemoveQuota => Change::RemoveCat {
+        RemoveQuota => Change::RemoveCat {
             table: 10,
             body: list_of(alloc, &QUOTA[9..17])?,
         },
@@ -269,7 +270,7 @@ fn stage_at_last<M: Machine>(
 fn a_row_lies_byte_for_byte(rt: HostRuntime) -> Result<(), Fail> {
     let alloc = rt.alloc();
     let mut machine = SteadyMachine::new(alloc);
-    assert_eq!(rt; commit(&mut machine, alloc, &[Step::Put(0)])?, 2);
+    assert_eq!(rt; commit(&mut machine, alloc, &[Put(0)])?, 2);
     let pages = machine.pages();
     assert_eq!(rt; pages.len(), 2 * PAGE_SIZE);
     assert_eq!(rt; &pages[..20], CONTROL.as_slice());
@@ -283,10 +284,10 @@ fn a_row_lies_byte_for_byte(rt: HostRuntime) -> Result<(), Fail> {
 fn the_row_behind_a_full_page_makes_another(rt: HostRuntime) -> Result<(), Fail> {
     let alloc = rt.alloc();
     let mut machine = SteadyMachine::new(alloc);
-    let steps: Vec<Step> = (0..185).map(Step::Put).collect(alloc)?;
+    let steps: Vec<Step> = (0..185).map(Put).collect(alloc)?;
     assert_eq!(rt; steps.len(), 185);
     assert_eq!(rt; commit(&mut machine, alloc, &steps)?, 2);
-    assert_eq!(rt; commit(&mut machine, alloc, &[Step::Put(185)])?, 3);
+    assert_eq!(rt; commit(&mut machine, alloc, &[Put(185)])?, 3);
     let pages = machine.pages();
     assert_eq!(rt; pages.len(), 3 * PAGE_SIZE);
     assert_eq!(rt; &pages[8152..8158], b"\x01\x01\0\0\0\xB8".as_slice());
@@ -304,22 +305,10 @@ fn a_removed_slot_waits_for_the_next_group(rt: HostRuntime) -> Result<(), Fail> 
     let alloc = rt.alloc();
     let mut machine = SteadyMachine::new(alloc);
     for (steps, slots) in [
-        (
-            [Step::Put(0), Step::Put(1)],
-            [(1, 0), (1, 1), (0, 0), (0, 0)],
-        ),
-        (
-            [Step::Remove(0), Step::Put(2)],
-            [(0, 0), (1, 1), (1, 2), (0, 0)],
-        ),
-        (
-            [Step::Put(3), Step::Trash(1)],
-            [(1, 3), (2, 1), (1, 2), (0, 0)],
-        ),
-        (
-            [Step::Put(1), Step::Trash(3)],
-            [(2, 3), (1, 1), (1, 2), (0, 0)],
-        ),
+        ([Put(0), Put(1)], [(1, 0), (1, 1), (0, 0), (0, 0)]),
+        ([Remove(0), Put(2)], [(0, 0), (1, 1), (1, 2), (0, 0)]),
+        ([Put(3), Trash(1)], [(1, 3), (2, 1), (1, 2), (0, 0)]),
+        ([Put(1), Trash(3)], [(2, 3), (1, 1), (1, 2), (0, 0)]),
     ] {
         assert_eq!(rt; commit(&mut machine, alloc, &steps)?, 2);
         let pages = machine.pages();
@@ -339,12 +328,12 @@ fn a_removed_slot_waits_for_the_next_group(rt: HostRuntime) -> Result<(), Fail> 
 fn a_full_page_does_not_fill_that_of_another_table(rt: HostRuntime) -> Result<(), Fail> {
     let alloc = rt.alloc();
     let mut machine = SteadyMachine::new(alloc);
-    let steps: Vec<Step> = (0..185).map(Step::Put).collect(alloc)?;
+    let steps: Vec<Step> = (0..185).map(Put).collect(alloc)?;
     assert_eq!(rt; steps.len(), 185);
-    assert_eq!(rt; commit(&mut machine, alloc, &[Step::PutChunk(4)])?, 2);
+    assert_eq!(rt; commit(&mut machine, alloc, &[PutChunk(4)])?, 2);
     assert_eq!(rt; commit(&mut machine, alloc, &steps)?, 3);
-    assert_eq!(rt; commit(&mut machine, alloc, &[Step::Put(185)])?, 4);
-    assert_eq!(rt; commit(&mut machine, alloc, &[Step::PutChunk(5)])?, 4);
+    assert_eq!(rt; commit(&mut machine, alloc, &[Put(185)])?, 4);
+    assert_eq!(rt; commit(&mut machine, alloc, &[PutChunk(5)])?, 4);
     let pages = machine.pages();
     assert_eq!(rt; pages.len(), 4 * PAGE_SIZE);
     assert_eq!(rt; &pages[4096..4134], CHUNK_FOUR.as_slice());
@@ -365,7 +354,7 @@ fn a_full_page_does_not_fill_that_of_another_table(rt: HostRuntime) -> Result<()
 fn rows_come_in_order_of_row(rt: HostRuntime) -> Result<(), Fail> {
     let alloc = rt.alloc();
     let mut machine = SteadyMachine::new(alloc);
-    let steps = [Step::Put(3), Step::Put(1), Step::PutChunk(1), Step::Put(2)];
+    let steps = [Put(3), Put(1), PutChunk(1), Put(2)];
     commit(&mut machine, alloc, &steps)?;
     for (scan, rows) in [
         (ROWS, [(1, 1, 5), (2, 1, 5), (3, 1, 5)].as_slice()),
@@ -386,17 +375,17 @@ fn rows_come_in_order_of_row(rt: HostRuntime) -> Result<(), Fail> {
 #[test]
 fn pages_of_other_tables_are_not_read(rt: HostRuntime) -> Result<(), Fail> {
     let alloc = rt.alloc();
-    let steps: Vec<Step> = (0..186).map(Step::Put).collect(alloc)?;
+    let steps: Vec<Step> = (0..186).map(Put).collect(alloc)?;
     assert_eq!(rt; steps.len(), 186);
     let mut machine = MemMachine::new(alloc, FailList::new(alloc));
     commit(&mut machine, alloc, &steps)?;
-    commit(&mut machine, alloc, &[Step::PutChunk(4)])?;
+    commit(&mut machine, alloc, &[PutChunk(4)])?;
     let mut store = opened(&mut machine, alloc)?;
     assert_eq!(rt; store.pages(), 4);
     for (scan, step, pages) in [
-        (ROWS, Step::Put(186), 2),
-        (CHUNKS, Step::PutChunk(5), 1),
-        (Scan { table: 10, ..ROWS }, Step::PutQuota, 0),
+        (ROWS, Put(186), 2),
+        (CHUNKS, PutChunk(5), 1),
+        (Scan { table: 10, ..ROWS }, PutQuota, 0),
     ] {
         let before = machine.calls();
         look_twice(alloc, &mut store, &mut machine, &scan, &scan)?;
@@ -417,9 +406,9 @@ fn pages_of_other_tables_are_not_read(rt: HostRuntime) -> Result<(), Fail> {
 fn each_stop_leaves_the_group_or_none(rt: HostRuntime) -> Result<(), Fail> {
     let alloc = rt.alloc();
     let mut machine = MemMachine::new(alloc, FailList::new(alloc));
-    commit(&mut machine, alloc, &[Step::Put(0)])?;
+    commit(&mut machine, alloc, &[Put(0)])?;
     let begun = machine.calls();
-    let steps = [Step::Remove(0), Step::Put(1), Step::PutChunk(4)];
+    let steps = [Remove(0), Put(1), PutChunk(4)];
     commit(&mut machine, alloc, &steps)?;
     let committed = machine.calls();
     seen(&mut machine, alloc, &ROWS)?;
@@ -444,7 +433,7 @@ fn each_stop_leaves_the_group_or_none(rt: HostRuntime) -> Result<(), Fail> {
 fn each_failing_call_is_answered(rt: HostRuntime) -> Result<(), Fail> {
     let alloc = rt.alloc();
     let mut laid = SteadyMachine::new(alloc);
-    commit(&mut laid, alloc, &[Step::Put(0)])?;
+    commit(&mut laid, alloc, &[Put(0)])?;
     for (kind, call, fault, rows) in [
         (CallKind::Sync, 1, Some(Fault::Open(StoreFault::Disk)), 1),
         (CallKind::Read, 1, Some(Fault::Open(StoreFault::Disk)), 1),
@@ -462,7 +451,7 @@ fn each_failing_call_is_answered(rt: HostRuntime) -> Result<(), Fail> {
         (CallKind::Emit, 1, None, 2),
     ] {
         let mut machine = failing(alloc, laid.pages(), kind, call)?;
-        let answer = commit(&mut machine, alloc, &[Step::Put(1)]).err();
+        let answer = commit(&mut machine, alloc, &[Put(1)]).err();
         assert_eq!(rt; answer, fault, "{kind:?} {call}");
         assert!(rt; fault.is_some() || machine.calls() == 13);
         let shown = seen(&mut machine, alloc, &ROWS)?;
@@ -480,7 +469,7 @@ fn each_failing_call_is_answered(rt: HostRuntime) -> Result<(), Fail> {
 #[test]
 fn a_store_serves_on_after_want_of_memory(rt: HostRuntime) -> Result<(), Fail> {
     let alloc = rt.alloc();
-    let changes = changes(alloc, &[Step::Put(0), Step::PutChunk(4), Step::PutQuota])?;
+    let changes = changes(alloc, &[Put(0), PutChunk(4), PutQuota])?;
     let mut machine = SteadyMachine::new(alloc);
     let mut store = opened(&mut machine, alloc)?;
     let staged = stage_at_last(&mut store, &mut machine, alloc, &changes)?;
@@ -496,11 +485,7 @@ fn a_store_serves_on_after_want_of_memory(rt: HostRuntime) -> Result<(), Fail> {
 fn a_slot_of_the_catalogue_comes_and_goes(rt: HostRuntime) -> Result<(), Fail> {
     let alloc = rt.alloc();
     let mut machine = SteadyMachine::new(alloc);
-    for (step, mark, used) in [
-        (Step::PutQuota, 1, 1),
-        (Step::PutQuota, 1, 1),
-        (Step::RemoveQuota, 0, 0),
-    ] {
+    for (step, mark, used) in [(PutQuota, 1, 1), (PutQuota, 1, 1), (RemoveQuota, 0, 0)] {
         assert_eq!(rt; commit(&mut machine, alloc, &[step])?, 2);
         let pages = machine.pages();
         assert_eq!(rt; pages.len(), 2 * PAGE_SIZE);
