@@ -34,7 +34,9 @@ fn lay_pages<M: Machine>(m: &mut M) -> Result<(), Failed> {
     Ok(())
 }
 
-pub(crate) fn list_of(alloc: Global, bytes: &[u8]) -> Result<Bytes, AllocError> {
+pub(crate) fn list_of(alloc: Global, bytes: &[u8]) -> Result<Bytes, AllocError>
+    ensures { IfOk result (λ list. list ≡ bytes.now) }
+{
     Ok(List::from_vec(Vec::from_slice(alloc, bytes)?))
 }
 
