@@ -14,11 +14,12 @@ use self::Step::{Put, PutChunk, PutQuota, Remove, RemoveQuota, Trash};
 use crate::lending::look_twice;
 use crate::tests::{list_of, one_integer};
 use crate::{Lent, Staged, Store, StoreFault, TableSize};
+use mt_codec::FieldKind;
 use mt_list::List;
 use mt_machine::{CallKind, FailList, Failed, Fill, Machine, MemMachine, SteadyMachine, Stopped};
 use mt_pages::PAGE_SIZE;
 use mt_physplan::{Change, Changes, Phys, PhysFault, Scan};
-use mt_rowfile::SlotRow;
+use mt_rowfile::{Head, Layout, SlotRow};
 use mt_staging::StageFault;
 use mt_value::Value;
 use std::alloc::{AllocError, Global};
@@ -56,6 +57,15 @@ const CHUNKS: Scan = Scan {
     chunk: 3,
     ..ROWS
 };
+
+const LONG: FieldKind = FieldKind::Text(255);
+
+/// Fields of 4,075 bytes: with the 13 in front of them a slot has all that a page has for slots.
+#[rustfmt::skip]
+const WIDEST: [FieldKind; 17] = [
+    LONG, LONG, LONG, LONG, LONG, LONG, LONG, LONG, LONG, LONG, LONG, LONG, LONG, LONG, LONG,
+    FieldKind::Text(193), FieldKind::Int,
+];
 
 const FILLS: [Fill; 4] = [
     Fill::Kept,
@@ -177,6 +187,28 @@ fn changes(alloc: Global, steps: &[Step]) -> Result<Changes, AllocError>
         changes.push(change(alloc, *step)?)?;
     }
     Ok(changes)
+}
+
+/// Puts a Row of which all fields but the last are NULL into table 31, where it has a page for itself.
+fn widest(alloc: Global, row: u64) -> Result<Change, AllocError>
+    ensures { IfOk result (λ change. (known : KnownLayouts) → layout_of known 31 ≡ Some (record { head = Conventional; kinds = WIDEST }) → IsSuited known change) }
+{
+    let mut values = List::new(alloc);
+    for _i in 0..16 {
+        values.push(Value::Null)?;
+    }
+    values.push(Value::Int(-1))?;
+    Ok(Change::Put {
+        table: 31,
+        slot: SlotRow {
+            mark: 1,
+            tenant: 1,
+            base: 0,
+            chunk: 0,
+            row,
+            values,
+        },
+    })
 }
 
 /// Commits steps as one group to the store of a machine, and tells how many pages it has then.
@@ -347,6 +379,33 @@ fn a_full_page_does_not_fill_that_of_another_table(rt: HostRuntime) -> Result<()
         &pages[12288..12302],
         b"\x10\0\0\0\0\0\0\0\x01\x01\0\0\0\xB9".as_slice()
     );
+    Ok(())
+}
+
+#[test]
+fn the_widest_slot_fills_a_page(rt: HostRuntime) -> Result<(), Fail> {
+    let alloc = rt.alloc();
+    let layout = Layout {
+        head: Head::Conventional,
+        kinds: List::from_vec(Vec::from_slice(alloc, &WIDEST)?),
+    };
+    let mut changes: Changes = List::new(alloc);
+    changes.push(widest(alloc, 0)?)?;
+    changes.push(widest(alloc, 1)?)?;
+    let mut machine = SteadyMachine::new(alloc);
+    let mut store = Store::load(&mut machine, alloc)?;
+    store.add_layout(&mut machine, 31, layout)?;
+    let staged = store.stage(&mut machine, alloc, &changes)?;
+    store.commit(&mut machine, staged)?;
+    assert_eq!(rt; store.pages(), 3);
+    let pages = machine.pages();
+    assert_eq!(rt; pages.len(), 3 * PAGE_SIZE);
+    for (page, row) in [(&pages[4096..8192], 0), (&pages[8192..], 1)] {
+        assert_eq!(rt; page.len(), PAGE_SIZE);
+        assert_eq!(rt; &page[..10], b"\x1F\0\0\0\0\0\0\0\x01\x01".as_slice());
+        assert_eq!(rt; &page[10..14], [0, 0, 0, row].as_slice());
+        assert_eq!(rt; &page[4086..], b"\0\x01\xFF\xFF\xFF\xFF\xFF\xFF\xFF\xFF".as_slice());
+    }
     Ok(())
 }
 
