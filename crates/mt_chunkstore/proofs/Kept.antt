@@ -3,45 +3,25 @@ use Rattle.std.proofs.Common.{◌≡◌, ◌≢◌, ℕ, ◌≤◌, IsTrue, IfSo
 use Rattle.std.proofs.lemmas.Bool.Decides.{nat_tests}
 use Rattle.std.proofs.lemmas.List.{get_or-set_same, get_or-set_other}
 use Rattle.mt_machine.specs.declared.machine.Area.TheVariants.{Pages}
-use Rattle.mt_machine.specs.Meaning.{Disk, Meaning}
+use Rattle.mt_machine.specs.Meaning.{Meaning}
 use Rattle.mt_machine.specs.Leaves.{Looks}
 use Rattle.mt_journal.specs.Commits.{StandsFor}
-use Rattle.mt_journal.specs.StandsLaws.{stands_after_looks}
 use Rattle.mt_rowfile.specs.declared.layout.Head.TheVariants.{Conventional}
 use Rattle.mt_rowfile.specs.declared.layout.Layout.{Layout}
 use Rattle.mt_rowfile.specs.Layouts.{IsLayout}
-use Rattle.mt_tables.specs.Pages.{page_count}
 use Rattle.mt_tables.specs.Rows.{AreKnown, KnownLayouts, layout_of, sizes_of}
-use Rattle.mt_pages.specs.Control.{IsPageZero}
 use Rattle.mt_pages.specs.Standing.{Counts}
-use Rattle.mt_directory.specs.Directory.{directory_of}
 use Rattle.mt_directory.specs.Known.{known_in, with_layout}
 use Rattle.mt_chunkstore.specs.declared.store.Store.{Store}
 use Rattle.mt_staging.specs.Group.{used_in}
 use Rattle.mt_chunkstore.specs.Standing.{SameStore, Stands}
+use Rattle.mt_chunkstore.specs.StandsLaws.{looks_keep, stands_still}
 use Rattle.mt_chunkstore.proofs.InUse.{used_elsewhere}
 
-pub counts_looked : {count : ℕ} {old new : Meaning} → Counts count old → Looks old new → Counts count new
-counts_looked {count} counts looks = record {
-  page_zero = λ tells. subst (λ (d : Disk). IsPageZero (d Pages)) (sym (looks.content tells)) (counts.page_zero (looks.leaves.told tells));
-  counted = λ tells. ap (λ (d : Disk). page_count (d Pages)) (looks.content tells) ∙ counts.counted (looks.leaves.told tells);
-}
-
--- a stretch that changes neither area leaves the store standing
-pub stands_still : (store : Store) (old new : Meaning) → Stands store old → Looks old new → Stands store new
-stands_still store old new stands looks = record {
-  journal = stands_after_looks stands.journal looks;
-  pages = counts_looked stands.pages looks;
-  sized = stands.sized;
-  known = stands.known;
-  directory = λ tells. stands.directory (looks.leaves.told tells) ∙ ap (λ (d : Disk). directory_of store.pages (d Pages)) (sym (looks.content tells));
-  used = λ tells table few. stands.used (looks.leaves.told tells) table few ∙ ap (λ (d : Disk). used_in (sizes_of (known_in store.layouts)) table store.pages (d Pages)) (sym (looks.content tells));
-}
-
--- and so does one that counts scans
+-- a stretch that changes neither area, and counts scans, leaves the store standing
 pub stands_looked : (store after : Store) (old new : Meaning) → SameStore store after → Stands store old → Looks old new → Stands after new
 stands_looked store after old new same before looks =
-    let stands = stands_still store old new before looks in
+    let stands = stands_still before (looks_keep looks) in
     record {
       journal = subst (λ tail. StandsFor tail new) (sym same.journal) stands.journal;
       pages = subst (λ count. Counts count new) (sym same.pages) stands.pages;
@@ -72,7 +52,7 @@ pub stands_with : (store : Store) (old new : Meaning) (table : ℕ) (layout : La
     → (IsTrue new.tells → (known : KnownLayouts) → layout_of known table ≡ Some layout → counted ≡ used_in (sizes_of known) table store.pages (new.content Pages))
     → Stands (record { journal = store.journal; pages = store.pages; layouts = layouts; directory = store.directory; used = slice_set store.used table counted; scans = store.scans }) new
 stands_with store old new table layout layouts counted before looks size from upto head sound is counts =
-    let stands = stands_still store old new before looks in
+    let stands = stands_still before (looks_keep looks) in
     let known = known_in store.layouts in
     record {
       journal = stands.journal;

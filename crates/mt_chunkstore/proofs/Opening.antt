@@ -13,7 +13,7 @@ use Rattle.mt_directory.specs.Known.{known_in}
 use Rattle.mt_chunkstore.specs.declared.store.Store.{Store}
 use Rattle.mt_chunkstore.specs.Found.{Surveyed}
 use Rattle.mt_chunkstore.specs.Opened.{IsOpened}
-use Rattle.mt_chunkstore.proofs.Kept.{counts_looked}
+use Rattle.mt_chunkstore.specs.StandsLaws.{counts_still, looks_keep}
 
 -- no conventional table is known
 none_known : (known : KnownLayouts) → known ≡ (λ table. None) → AreKnown known
@@ -27,7 +27,7 @@ opened store old first second new start recovered one counts none two found =
     record {
       stands = record {
         journal = subst (λ tail. StandsFor tail new) (sym start) (stands_after_looks recovered.stands looks);
-        pages = counts_looked counts two;
+        pages = counts_still counts (looks_keep two);
         sized = found.sized;
         known = none_known (known_in store.layouts) none;
         directory = found.listed;

@@ -21,15 +21,15 @@ use Rattle.mt_chunkstore.specs.declared.store.Store.{Store}
 use Rattle.mt_chunkstore.specs.Changes.{MayChange, free_at_start}
 use Rattle.mt_chunkstore.specs.Staged.{IsStaged, StageCause}
 use Rattle.mt_chunkstore.specs.Standing.{Stands}
+use Rattle.mt_chunkstore.specs.StandsLaws.{looks_keep, stands_still}
 use Rattle.mt_chunkstore.specs.Walked.{Begins, IsChosen, IsFound, IsWalked}
 use Rattle.mt_chunkstore.proofs.Begun.{group_begins}
-use Rattle.mt_chunkstore.proofs.Kept.{stands_still}
 
 -- a stretch that looks, and room in the directory, leave the store standing
 pub stands_kept : (store after : Store) (old new : Meaning) → after.journal ≡ store.journal → after.pages ≡ store.pages → after.layouts ≡ store.layouts → after.directory.tables ≡ store.directory.tables → after.used ≡ store.used
     → Stands store old → Looks old new → Stands after new
 stands_kept store after old new journal pages layouts tables used before looks =
-    let stands = stands_still store old new before looks in
+    let stands = stands_still before (looks_keep looks) in
     record {
       journal = subst (λ tail. StandsFor tail new) (sym journal) stands.journal;
       pages = subst (λ count. Counts count new) (sym pages) stands.pages;
@@ -70,7 +70,9 @@ cause_chosen {U} r known changes count tables places old new looks none listed c
   where
     by : (r : Result U StageFault) → IsErr r → (IsErrOf r faults.Disk → (area : Area) → Begins known count area (free_at_start known changes count area) places → MayChange known changes count area → ⊥) → StageCause r known changes count old new
     by (Ok x) err never = absurd (false≢true err)
-    by (Err faults.Disk) err never = λ tells may.
+    by (Err faults.Disk) err never = λ both.
+        let tells = both.0 in
+        let may = both.1 in
         let told = looks.leaves.told tells in
         let few = may.few in
         let same : new.content ≡ old.content = looks.content tells in

@@ -6,4 +6,5 @@ pub mod LentLaws
 pub mod Opened
 pub mod Staged
 pub mod Standing
+pub mod StandsLaws
 pub mod Walked

@@ -1,14 +1,10 @@
 -- How a store stands for a machine.
-use Rattle.std.specs.Prelude.{◌≡◌, ℕ, ◌+◌, ◌-◌, ◌^◌, ◌<◌, min, ◌&&◌, Bool, IsTrue, nat_eq, nat_le, not, is_some, List, length, map, filter, count_by, slice_index}
+use Rattle.std.specs.Prelude.{◌≡◌, ℕ, ◌+◌, ◌-◌, ◌^◌, ◌<◌, min, ◌&&◌, Bool, IsTrue, nat_eq, nat_le, is_some, List, length, map, filter, count_by, slice_index}
 use Rattle.std.specs.List.{range_with_len}
 use Rattle.mt_machine.specs.declared.machine.Area.TheVariants.{Pages}
 use Rattle.mt_machine.specs.Meaning.{Meaning}
 use Rattle.mt_journal.specs.Commits.{StandsFor}
-use Rattle.mt_journal.specs.Layout.{Area}
-use Rattle.mt_rowfile.specs.Pages.{is_free}
-use Rattle.mt_tables.specs.Pages.{SlotSizes}
 use Rattle.mt_tables.specs.Rows.{AreKnown, layout_of, sizes_of}
-use Rattle.mt_tables.specs.Tables.{slots_below}
 use Rattle.mt_pages.specs.Standing.{Counts}
 use Rattle.mt_directory.specs.Directory.{directory_of}
 use Rattle.mt_directory.specs.Known.{known_in}

@@ -3,7 +3,7 @@ ghost use Rattle.mt_codec.specs.declared.field.FieldKind.TheVariants.{Int};
 ghost use Rattle.mt_rowfile.specs.declared.layout.Head.TheVariants.{Conventional};
 ghost use Rattle.mt_rowfile.specs.Layouts.{IsLayout};
 
-use crate::{Sizes, Store, StoreFault, TableSize};
+use crate::{Sizes, Store, StoreFault, TableSize, staging_is_kept, standing_is_kept};
 use mt_codec::FieldKind;
 use mt_list::List;
 use mt_machine::{Area, Bytes, CallKind, FailList, Failed, Machine, MemMachine, SteadyMachine};
@@ -55,6 +55,8 @@ fn an_empty_disk_has_page_zero(rt: HostRuntime) -> Result<(), Fail> {
     let store = Store::load(&mut machine, alloc)?;
     assert_eq!(rt; store.pages(), 1);
     assert!(rt; store.sizes(alloc)?.as_slice().is_empty());
+    standing_is_kept::<MemMachine>();
+    staging_is_kept::<MemMachine>();
     Ok(())
 }
 

@@ -2,21 +2,18 @@
 use Rattle.std.proofs.Common.{◌≡◌, ℕ, zero, suc, ◌+◌, ◌-◌, ◌<◌, ◌≤◌, Bool, true, false, Option, Some, None, IfSome, IfNone, List, [], ◌∷◌, ◌++◌, length, take, drop, get_or, map, refl, sym, ◌∙◌, subst, ◌⊎◌, inl, inr, arith}
 use Rattle.std.specs.List.{AllPass, list_all}
 use Rattle.std.specs.Str.Parse.{digits_value}
-use Rattle.std.proofs.lemmas.Grind.{common_steps}
 use Rattle.std.proofs.lemmas.Bool.{cases_lt, cases_eq}
-use Rattle.std.proofs.lemmas.List.{length-drop, get_or-drop}
-use Rattle.std.proofs.lemmas.List.Elements.{All-more}
 use Rattle.std.proofs.lemmas.List.Sums.{AllPass-from_list_all, list_all-from_AllPass}
 use Rattle.mt_lexer.specs.declared.token.Symbol.{Symbol}
 use Rattle.mt_lexer.specs.declared.token.TokenKind.{TokenKind}
 use Rattle.mt_lexer.specs.declared.token.Token.{Token}
-use Rattle.mt_lexer.specs.Tokens.{Lexeme, Word, Number, Quoted, Sign, IsOfKind, IsToken, IsGap, Says, HasNoTokenAt, begins_word, is_in_word, is_digit, is_blank, lower, symbol_bytes}
+use Rattle.mt_lexer.specs.Tokens.{Lexeme, Word, Number, Quoted, Sign, IsOfKind, IsToken, Says, HasNoTokenAt, begins_word, is_in_word, is_digit, is_blank, lower, symbol_bytes}
 use Rattle.mt_lexer.specs.FirstToken.{IsFirstToken, IsWordRun, symbol_of}
 use Rattle.mt_lexer.proofs.Runs.{run_of_all, run_up_to, run_more}
 use Rattle.mt_lexer.proofs.Reading.{word_is_run, number_is_run, word_from_run, number_from_run}
 use Rattle.mt_lexer.proofs.Quotes.{IsOpenQuote, open_first, open_more, open_twice, quoted_closed, open_at_end, quoted_begins}
 use Rattle.mt_lexer.proofs.Signs.{symbol_found, symbol_not_found}
-use Rattle.mt_lexer.proofs.Tiling.{Reached, Reached-start, Reached-push, says_from_reached, none_from_reached, token_from_read, read_from_token, read_fits, kind_of}
+use Rattle.mt_lexer.proofs.Tiling.{Reached, Reached-start, Reached-push, Reached-blank, says_from_reached, none_from_reached, token_from_read, read_from_token, read_fits, kind_of}
 
 -- the run of bytes that may stand in a word, from n bytes of it on
 run_from : (fuel : ℕ) (rest : List ℕ) (n : ℕ) → length rest ≤ n + fuel → n ≤ length rest → AllPass is_in_word (take n rest) → (m : ℕ) × IsWordRun rest m
@@ -124,38 +121,6 @@ token_or_not text at within = by (read_or_not (drop at text)) where
       inl (token_at (kind_of l) at (at + n), l, refl, omega (arith, fits.0), token_from_read text (token_at (kind_of l) at (at + n)) l (omega arith) within (kind_of_is l) (subst (λ m. IsFirstToken (drop at text) m l) (sym long) r))
   by (inr none) = inr (λ t l e h. none (t.upto - t.from) l (subst (λ place. IsFirstToken (drop place text) (t.upto - t.from) l) e (read_from_token text t l h)))
 
--- one blank more
-gap_more : (text : List ℕ) (from at : ℕ) → IsGap text from at → at < length text → is_blank (get_or text at 0) ≡ true → IsGap text from (at + 1)
-gap_more text from at gap below blank =
-    let place : from + (at - from) ≡ at = omega (arith, gap.forward) in
-    let long : at - from + 1 ≡ at + 1 - from = omega (arith, gap.forward) in
-    let here : is_blank (get_or (drop from text) (at - from) 0) ≡ true = rw (get_or-drop, place) blank in
-    let inside : at - from < length (drop from text) = omega (arith, gap.forward, length-drop from text) in
-    record {
-      forward = omega (arith, gap.forward);
-      within = omega arith;
-      blank = subst (λ n. AllPass is_blank (take n (drop from text))) long (All-more (λ b. is_blank b ≡ true) (drop from text) (at - from) 0 inside gap.blank here);
-    }
-
--- the place where the blanks end
-abbrev GapEnds : List ℕ → ℕ → Type 0
-GapEnds text from = (upto : ℕ) × IsGap text from upto × (upto < length text → is_blank (get_or text upto 0) ≡ false)
-
--- the blanks from a place on
-gap_from : (fuel : ℕ) (text : List ℕ) (from at : ℕ) → length text ≤ at + fuel → IsGap text from at → GapEnds text from
-gap_from zero text from at enough gap = (at, gap, λ below. absurd (omega arith))
-gap_from (suc fuel) text from at enough gap = elim (cases_lt at (length text)) [
-  | inl below ↦ by (is_blank (get_or text at 0)) refl below (λ more. gap_from fuel text from (at + 1) (omega arith) more)
-  | inr all ↦ (at, gap, λ below. absurd (omega arith))
-]
-  where
-    by : (b : Bool) → is_blank (get_or text at 0) ≡ b → at < length text → (IsGap text from (at + 1) → GapEnds text from) → GapEnds text from
-    by true e below on = on (gap_more text from at gap below e)
-    by false e below on = (at, gap, λ below. e)
-
-gap_at : (text : List ℕ) (from : ℕ) → from ≤ length text → GapEnds text from
-gap_at text from within = gap_from (length text) text from from (omega arith) (record { forward = omega arith; within = within; blank = grind (arith, common_steps) })
-
 abbrev SaysOrNot : List ℕ → Type 0
 SaysOrNot text = ((tokens : List Token) × (lexemes : List Lexeme) × Says text tokens lexemes) ⊎ ((at : ℕ) × HasNoTokenAt text at)
 
@@ -166,18 +131,16 @@ whole tokens says = (tokens, says.0, says.1)
 says_from : (fuel : ℕ) (text : List ℕ) (tokens : List Token) (at : ℕ) → length text ≤ at + fuel → Reached text tokens at → SaysOrNot text
 says_from zero text tokens at enough reached = inl (whole tokens (says_from_reached text tokens at reached (omega arith)))
 says_from (suc fuel) text tokens at enough reached = elim (cases_lt at (length text)) [
-  | inl below ↦ by (token_or_not text at (omega arith)) below (λ more next enough reached. says_from fuel text more next enough reached)
+  | inl below ↦ by (token_or_not text at (omega arith)) (is_blank (get_or text at 0)) refl below (λ more next enough reached. says_from fuel text more next enough reached)
   | inr all ↦ inl (whole tokens (says_from_reached text tokens at reached all))
 ]
   where
-    by : TokenOrNot text at → at < length text → ((more : List Token) (next : ℕ) → length text ≤ next + fuel → Reached text more next → SaysOrNot text) → SaysOrNot text
-    by (inl (t, l, e, more, h)) below on =
-        let gap = gap_at text t.upto h.within in
-        on (tokens ++ t ∷ []) gap.0 (omega (arith, gap.1.forward)) (Reached-push text tokens t l gap.0 (subst (Reached text tokens) (sym e) reached) h gap.1 gap.2)
-    by (inr none) below on = inr (at, none_from_reached text tokens at reached below none)
+    by : TokenOrNot text at → (b : Bool) → is_blank (get_or text at 0) ≡ b → at < length text → ((more : List Token) (next : ℕ) → length text ≤ next + fuel → Reached text more next → SaysOrNot text) → SaysOrNot text
+    by (inl (t, l, e, more, h)) b blank below on =
+        on (tokens ++ t ∷ []) t.upto (omega arith) (Reached-push text tokens t l (subst (Reached text tokens) (sym e) reached) h)
+    by (inr none) true blank below on = on tokens (at + 1) (omega arith) (Reached-blank text tokens at reached below blank)
+    by (inr none) false blank below on = inr (at, none_from_reached text tokens at reached below blank none)
 
 -- each text says something, or has a place with no token
 pub says_or_not : (text : List ℕ) → SaysOrNot text
-says_or_not text =
-    let gap = gap_at text 0 (omega arith) in
-    says_from (length text) text [] gap.0 (omega arith) (Reached-start text gap.0 gap.1 gap.2)
+says_or_not text = says_from (length text) text [] 0 (omega arith) (Reached-start text)

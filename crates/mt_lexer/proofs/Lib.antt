@@ -1,4 +1,5 @@
 pub mod Runs
+mod Classes
 pub mod Quotes
 pub mod Signs
 pub mod Reading

@@ -1,6 +1,6 @@
 -- What one place of a text can be read as.
 use Rattle.std.proofs.Common.{◌≡◌, ℕ, zero, suc, ◌<◌, ◌≤◌, true, false, ◌||◌, List, [], ◌∷◌, ◌++◌, length, take, drop, get_or, map, refl, sym, ap, ◌∙◌, subst, ◌==◌, leb, ◌⊎◌, inl, inr, ◌≢◌, arith}
-use Rattle.std.proofs.lemmas.Bool.{false≢true, eqb-true, leb-true, ne_eqb, or_from, or_cases, or_left, or_right, and_parts}
+use Rattle.std.proofs.lemmas.Bool.{false≢true, eqb-true, leb-true, ne_eqb, or_from, or_cases, or_left, or_right, or_parts, and_parts}
 use Rattle.std.proofs.lemmas.List.{length-take-le, length-drop}
 use Rattle.std.proofs.lemmas.List.Elements.{All-cons, All-tail, All-weaker}
 use Rattle.std.specs.List.{AllPass}
@@ -9,7 +9,7 @@ use Rattle.mt_lexer.specs.declared.token.Symbol.{Symbol}
 use Rattle.mt_lexer.specs.declared.token.Symbol.TheVariants as symbol
 use Rattle.mt_lexer.specs.Tokens.{Lexeme, Word, Number, Quoted, Sign, Spells, begins_word, is_in_word, is_digit, is_upper, is_lower, is_blank, lower, doubled, symbol_bytes}
 use Rattle.mt_lexer.specs.FirstToken.{IsFirstToken, IsWordRun}
-use Rattle.mt_lexer.proofs.Runs.{run_length_unique}
+use Rattle.mt_lexer.proofs.Runs.{BeginsNoWith_at, BeginsNoWith_from, run_length_unique}
 use Rattle.mt_lexer.proofs.Quotes.{quoted_unique, quoted_rest}
 use Rattle.mt_lexer.proofs.Signs.{StandsAt, stands_where_read, symbol_read}
 
@@ -228,6 +228,15 @@ pub number_from_run : (rest : List ℕ) (n : ℕ) → IsWordRun rest n → 0 < n
 number_from_run rest n h p a =
     let l = length-take-le n rest h.within in
     record { within = h.within; spelling = (omega arith, a, refl); ends = h.ends }
+
+-- where a number stands there are digits, and no byte of a word follows them
+pub number_is_digits : (rest : List ℕ) (n m value : ℕ) → n ≤ length rest → AllPass is_digit (take n rest) → is_digit (get_or rest n 0) ≡ false → IsFirstToken rest m (Number value) → (0 < n) × (is_in_word (get_or rest n 0) ≡ false)
+number_is_digits rest n m value within run ends r =
+    let behind : is_in_word (get_or rest m 0) ≡ false = BeginsNoWith_at is_in_word refl rest m r.ends in
+    let no_digit : is_digit (get_or rest m 0) ≡ false = (or_parts (begins_word (get_or rest m 0)) (is_digit (get_or rest m 0)) behind).1 in
+    let e = run_length_unique is_digit refl rest n m within r.within run r.spelling.1 (BeginsNoWith_from is_digit rest n ends) (BeginsNoWith_from is_digit rest m no_digit) in
+    let l = length-take-le m rest r.within in
+    (omega (arith, r.spelling.0), rw e behind)
 
 -- where a word may begin and none stands, no token does
 pub none_for_word : (rest : List ℕ) → begins_word (get_or rest 0 0) ≡ true → ((n : ℕ) (name : List ℕ) → IsFirstToken rest n (Word name) → ⊥) → (n : ℕ) (lexeme : Lexeme) → IsFirstToken rest n lexeme → ⊥

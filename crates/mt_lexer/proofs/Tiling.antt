@@ -1,7 +1,10 @@
 -- Tokens one behind another.
 use Rattle.std.proofs.Common.{◌≡◌, ℕ, zero, suc, ◌+◌, ◌-◌, ◌<◌, ◌≤◌, true, false, List, [], ◌∷◌, ◌++◌, length, take, drop, get_or, refl, sym, ap, ◌∙◌, subst, inl, inr, arith, add-zero}
 use Rattle.std.proofs.lemmas.Bool.{false≢true, cases_order}
+use Rattle.std.proofs.lemmas.Grind.{common_steps}
 use Rattle.std.proofs.lemmas.List.{drop-drop, length-drop, get_or-drop, get_or-take, length-take-le}
+use Rattle.std.proofs.lemmas.List.Elements.{All-more}
+use Rattle.std.specs.List.{AllPass}
 use Rattle.mt_lexer.specs.declared.token.TokenKind.{TokenKind}
 use Rattle.mt_lexer.specs.declared.token.TokenKind.TheVariants as kind
 use Rattle.mt_lexer.specs.declared.token.Token.{Token}
@@ -165,27 +168,46 @@ Stand-push text from upto (u ∷ us) (m ∷ ms) t l s g h = (s.0, s.1, Stand-pus
 Stand-push text from upto [] (m ∷ ms) t l s g h = absurd s
 Stand-push text from upto (u ∷ us) [] t l s g h = absurd s
 
--- The tokens from the start, and the blanks behind them, which end at this place.
+-- The tokens from the start, and the blanks behind them up to this place.
 pub record Reached (text : List ℕ) (tokens : List Token) (at : ℕ) : Type 0 where
   pub lexemes : List Lexeme
   pub upto : ℕ
   pub stand : Stand text 0 tokens lexemes upto
   pub gap : IsGap text upto at
-  pub found : at < length text → is_blank (get_or text at 0) ≡ false
+
+-- no byte is no blank
+no_gap : (text : List ℕ) (at : ℕ) → at ≤ length text → IsGap text at at
+no_gap text at within = record { forward = omega arith; within = within; blank = grind (arith, common_steps) }
+
+-- one blank more
+gap_more : (text : List ℕ) (from at : ℕ) → IsGap text from at → at < length text → is_blank (get_or text at 0) ≡ true → IsGap text from (at + 1)
+gap_more text from at gap below blank =
+    let place : from + (at - from) ≡ at = omega (arith, gap.forward) in
+    let long : at - from + 1 ≡ at + 1 - from = omega (arith, gap.forward) in
+    let here : is_blank (get_or (drop from text) (at - from) 0) ≡ true = rw (get_or-drop, place) blank in
+    let inside : at - from < length (drop from text) = omega (arith, gap.forward, length-drop from text) in
+    record {
+      forward = omega (arith, gap.forward);
+      within = omega arith;
+      blank = subst (λ n. AllPass is_blank (take n (drop from text))) long (All-more (λ b. is_blank b ≡ true) (drop from text) (at - from) 0 inside gap.blank here);
+    }
 
 -- at the start there are none
-pub Reached-start : (text : List ℕ) (at : ℕ) → IsGap text 0 at → (at < length text → is_blank (get_or text at 0) ≡ false) → Reached text [] at
-Reached-start text at g f = record { lexemes = []; upto = 0; stand = refl; gap = g; found = f }
+pub Reached-start : (text : List ℕ) → Reached text [] 0
+Reached-start text = record { lexemes = []; upto = 0; stand = refl; gap = no_gap text 0 (omega arith) }
 
 -- one more token that stands at the place
-pub Reached-push : (text : List ℕ) (ts : List Token) (t : Token) (l : Lexeme) (at : ℕ) → Reached text ts t.from → IsToken text t l → IsGap text t.upto at → (at < length text → is_blank (get_or text at 0) ≡ false) → Reached text (ts ++ t ∷ []) at
-Reached-push text ts t l at r h g f = record {
+pub Reached-push : (text : List ℕ) (ts : List Token) (t : Token) (l : Lexeme) → Reached text ts t.from → IsToken text t l → Reached text (ts ++ t ∷ []) t.upto
+Reached-push text ts t l r h = record {
   lexemes = r.lexemes ++ l ∷ [];
   upto = t.upto;
   stand = Stand-push text 0 r.upto ts r.lexemes t l r.stand r.gap h;
-  gap = g;
-  found = f;
+  gap = no_gap text t.upto h.within;
 }
+
+-- one more blank that stands there
+pub Reached-blank : (text : List ℕ) (ts : List Token) (at : ℕ) → Reached text ts at → at < length text → is_blank (get_or text at 0) ≡ true → Reached text ts (at + 1)
+Reached-blank text ts at r below blank = record { lexemes = r.lexemes; upto = r.upto; stand = r.stand; gap = gap_more text r.upto at r.gap below blank }
 
 -- at the end of the text they are its tokens
 pub says_from_reached : (text : List ℕ) (ts : List Token) (at : ℕ) → Reached text ts at → length text ≤ at → (lexemes : List Lexeme) × Says text ts lexemes
@@ -193,16 +215,16 @@ says_from_reached text ts at r h =
     let e : at ≡ length text = omega (arith, r.gap.within) in
     (r.lexemes, record { upto = r.upto; stand = r.stand; rest = subst (IsGap text r.upto) e r.gap })
 
--- where none stands the text is refused
-pub none_from_reached : (text : List ℕ) (ts : List Token) (at : ℕ) → Reached text ts at → at < length text → ((t : Token) (l : Lexeme) → t.from ≡ at → IsToken text t l → ⊥) → HasNoTokenAt text at
-none_from_reached text ts at r h n = record {
+-- where none stands, and no blank, the text is refused
+pub none_from_reached : (text : List ℕ) (ts : List Token) (at : ℕ) → Reached text ts at → at < length text → is_blank (get_or text at 0) ≡ false → ((t : Token) (l : Lexeme) → t.from ≡ at → IsToken text t l → ⊥) → HasNoTokenAt text at
+none_from_reached text ts at r h found n = record {
   tokens = ts;
   lexemes = r.lexemes;
   upto = r.upto;
   stand = r.stand;
   gap = r.gap;
   byte = h;
-  found = r.found h;
+  found = found;
   none = n;
 }
 

@@ -1,4 +1,4 @@
-ghost use Rattle.std.specs.Prelude.{◌≡◌, ℕ, List, length, take, map, slice_index, IfSome, IfNone, IsTrue, ◌↔◌};
+ghost use Rattle.std.specs.Prelude.{◌≡◌, ◌≤◌, ℕ, List, false, length, take, map, slice_index, IfSome, IfNone};
 ghost use Rattle.std.specs.List.{AllPass};
 ghost use Rattle.std.specs.Str.Parse.{digits_value};
 ghost use Rattle.mt_lexer.specs.Tokens.{Lexeme, Word, Number, Quoted, Sign, begins_word, is_in_word, is_digit, lower, symbol_bytes};
@@ -12,25 +12,36 @@ pub(crate) const WORD_LIMIT: usize = 30;
 /// What a text stands between.
 pub(crate) const QUOTE: u8 = b'\'';
 
+/// For each byte whether a word may begin with it, `w`, or go on with it, `w` and `d`, which is a digit.
+static CLASSES: [u8; 256] = *b"\
+    ................................\
+    ................dddddddddd......\
+    .wwwwwwwwwwwwwwwwwwwwwwwwww....w\
+    .wwwwwwwwwwwwwwwwwwwwwwwwww.....\
+    ................................\
+    ................................\
+    ................................\
+    ................................";
+
 /// Whether a word may begin with this byte.
 pub(crate) fn begins_word(byte: u8) -> bool
     ensures { result ≡ begins_word byte }
 {
-    byte.is_ascii_alphabetic() || byte == b'_'
+    CLASSES[byte as usize] == b'w'
 }
 
 /// Whether this byte may stand in a word.
 pub(crate) fn is_in_word(byte: u8) -> bool
     ensures { result ≡ is_in_word byte }
 {
-    begins_word(byte) || is_digit(byte)
+    CLASSES[byte as usize] != b'.'
 }
 
 /// Whether this byte is a digit.
 pub(crate) fn is_digit(byte: u8) -> bool
     ensures { result ≡ is_digit byte }
 {
-    byte.is_ascii_digit()
+    CLASSES[byte as usize] == b'd'
 }
 
 /// The byte at a place, or 0 past the end.
@@ -44,12 +55,11 @@ pub(crate) fn byte_at(rest: &[u8], at: usize) -> u8
 fn run_len(rest: &[u8]) -> usize
     ensures { IsWordRun rest.now result }
 {
-    for (len, byte) in rest.iter().enumerate() {
-        if !is_in_word(*byte) {
-            return len;
-        }
+    let mut len = 0;
+    while len < rest.len() && is_in_word(rest[len]) {
+        len += 1;
     }
-    rest.len()
+    len
 }
 
 /// The length of the word that these bytes begin with.
@@ -65,11 +75,17 @@ pub(crate) fn word_len(rest: &[u8]) -> Option<usize>
     }
 }
 
-/// Whether each byte is a digit.
-fn all_digits(bytes: &[u8]) -> bool
-    ensures { IsTrue result ↔ AllPass is_digit bytes.now }
+/// How many digits these bytes begin with.
+fn digits_len(rest: &[u8]) -> usize
+    ensures within { result ≤ length rest.now }
+    ensures run { AllPass is_digit (take result rest.now) }
+    ensures ends { is_digit (slice_index rest.now result) ≡ false }
 {
-    bytes.iter().all(|byte| is_digit(*byte))
+    let mut len = 0;
+    while len < rest.len() && is_digit(rest[len]) {
+        len += 1;
+    }
+    len
 }
 
 /// The length of the number that these bytes begin with.
@@ -77,8 +93,8 @@ pub(crate) fn number_len(rest: &[u8]) -> Option<usize>
     ensures some { IfSome result (λ n. IsFirstToken rest.now n (Number (digits_value 10 (take n rest.now)))) }
     ensures none { IfNone result ((n value : ℕ) → IsFirstToken rest.now n (Number value) → ⊥) }
 {
-    let len = run_len(rest);
-    if len > 0 && all_digits(&rest[..len]) {
+    let len = digits_len(rest);
+    if len > 0 && !is_in_word(byte_at(rest, len)) {
         Some(len)
     } else {
         None
@@ -106,9 +122,17 @@ pub(crate) fn quoted_len(rest: &[u8]) -> Option<usize>
     None
 }
 
-/// The symbol that a byte begins, where `next` follows it, or 0 nothing does.
-fn symbol_of(first: u8, next: u8) -> Option<Symbol>
-    ensures { result ≡ symbol_of first next }
+/// The longest symbol that these bytes begin with.
+pub(crate) fn symbol_at(rest: &[u8]) -> Option<Symbol>
+    ensures some { IfSome result (λ s. IsFirstToken rest.now (length (symbol_bytes s)) (Sign s)) }
+    ensures none { IfNone result ((n : ℕ) (s : Symbol) → IsFirstToken rest.now n (Sign s) → ⊥) }
+{
+    symbol_of(byte_at(rest, 0), rest)
+}
+
+/// The symbol that a byte begins, which is the first of these.
+fn symbol_of(first: u8, rest: &[u8]) -> Option<Symbol>
+    ensures { result ≡ symbol_of first (slice_index rest.now 1) }
 {
     let symbol = match first {
         b'(' => Symbol::Open,
@@ -120,29 +144,18 @@ fn symbol_of(first: u8, next: u8) -> Option<Symbol>
         b'-' => Symbol::Minus,
         b'=' => Symbol::Equal,
         b';' => Symbol::Semicolon,
-        b'<' => match next {
+        b'<' => match byte_at(rest, 1) {
             b'>' => Symbol::NotEqual,
             b'=' => Symbol::LessEqual,
             _ => Symbol::Less,
         },
-        b'>' => {
-            if next == b'=' {
-                Symbol::GreaterEqual
-            } else {
-                Symbol::Greater
-            }
-        }
+        b'>' => match byte_at(rest, 1) {
+            b'=' => Symbol::GreaterEqual,
+            _ => Symbol::Greater,
+        },
         _ => return None,
     };
     Some(symbol)
-}
-
-/// The longest symbol that these bytes begin with.
-pub(crate) fn symbol_at(rest: &[u8]) -> Option<Symbol>
-    ensures some { IfSome result (λ s. IsFirstToken rest.now (length (symbol_bytes s)) (Sign s)) }
-    ensures none { IfNone result ((n : ℕ) (s : Symbol) → IsFirstToken rest.now n (Sign s) → ⊥) }
-{
-    symbol_of(byte_at(rest, 0), byte_at(rest, 1))
 }
 
 /// How many bytes spell the symbol.

@@ -1,7 +1,7 @@
 ghost use Rattle.std.specs.Prelude.{◌≡◌, ◌≤◌, ◌<◌, ℕ, List, false, length, slice_index, IfOk, IfSome, IfNone};
 ghost use Rattle.mt_lexer.specs.declared.token.Token.{Token};
 ghost use Rattle.mt_lexer.specs.FirstToken.{IsFirstToken};
-ghost use Rattle.mt_lexer.specs.Tokens.{Lexeme, IsGap, IsOfKind, IsToken, Says, HasNoTokenAt, is_blank};
+ghost use Rattle.mt_lexer.specs.Tokens.{Lexeme, IsOfKind, IsToken, Says, HasNoTokenAt, is_blank};
 
 use crate::piece::{
     QUOTE, begins_word, byte_at, is_digit, number_len, quoted_len, symbol_at, symbol_len, word_len,
@@ -39,28 +39,18 @@ pub fn tokens(alloc: Global, text: &str) -> Result<Tokens, LexFault>
 {
     let bytes = text.as_bytes();
     let mut found = Tokens::new(alloc);
-    let mut at = skip_blanks(bytes, 0);
+    let mut at = 0;
     while at < bytes.len() {
-        let Some(token) = token_at(bytes, at) else {
+        if let Some(token) = token_at(bytes, at) {
+            found.push(token)?;
+            at = token.upto;
+        } else if is_blank(bytes[at]) {
+            at += 1;
+        } else {
             return Err(LexFault::Bad { at });
-        };
-        found.push(token)?;
-        at = skip_blanks(bytes, token.upto);
+        }
     }
     Ok(found)
-}
-
-/// Where the blanks from a place on end.
-fn skip_blanks(text: &[u8], from: usize) -> usize
-    requires { from ≤ length text.now }
-    ensures gap { IsGap text.now from result }
-    ensures stops { result < length text.now → is_blank (slice_index text.now result) ≡ false }
-{
-    let mut at = from;
-    while at < text.len() && is_blank(text[at]) {
-        at += 1;
-    }
-    at
 }
 
 /// Whether the byte is a space or a tab.

@@ -1,7 +1,7 @@
 -- The slots of a page, one after another.
-use Rattle.std.proofs.Common.{◌≡◌, ◌≢◌, ℕ, zero, suc, ◌+◌, ◌-◌, ◌*◌, ◌/◌, ◌<◌, ◌≤◌, ◌&&◌, Bool, true, false, cond, nat_eq, nat_le, List, [], ◌∷◌, ◌++◌, map, filter, take, drop, slice_index, Option, None, Some, refl, sym, ap, ◌∙◌, arith}
+use Rattle.std.proofs.Common.{◌≡◌, ℕ, zero, suc, ◌+◌, ◌-◌, ◌*◌, ◌/◌, ◌<◌, ◌≤◌, ◌&&◌, Bool, true, false, cond, nat_eq, nat_le, List, [], ◌∷◌, ◌++◌, map, filter, take, drop, Option, None, Some, refl, sym, ap, ◌∙◌, arith}
 use Rattle.std.proofs.Math.Nat.{mul-div-le, mul-le-mul_left, sub-zero}
-use Rattle.std.proofs.lemmas.Bool.{eq-eqb, ne_eqb}
+use Rattle.std.proofs.lemmas.Bool.{eq-eqb}
 use Rattle.std.proofs.lemmas.Bool.Decides.{nat_tests}
 use Rattle.std.specs.List.{range_with_len}
 use Rattle.std.specs.declared.cmp.Ordering.{Ordering}
@@ -15,10 +15,10 @@ use Rattle.mt_rowfile.specs.Layouts.{slot_width, slots_per_page}
 use Rattle.mt_rowfile.specs.Pages.{is_free}
 use Rattle.mt_tables.specs.Pages.{slot_position}
 use Rattle.mt_tables.specs.Plan.{PlacedSlot, free_in, placed_in, sought, with_place}
-use Rattle.mt_tables.specs.Rows.{KnownLayouts, body_in, catalogue_layout, is_of_catalogue, layout_of, row_in, sizes_of}
+use Rattle.mt_tables.specs.Rows.{KnownLayouts, layout_of, sizes_of}
 use Rattle.mt_tables.specs.Rows as rows
 use Rattle.mt_tables.specs.Tables.{TableSlot}
-use Rattle.mt_places.specs.Walked.{free_by, free_from, row_with, slots_by, slots_from}
+use Rattle.mt_places.specs.Walked.{slots_by, slots_from}
 
 -- a slot of a page begins within it
 pub within_page : (width count number : ℕ) → count ≡ 4088 / width → number < count → width * number ≤ 4096
@@ -56,25 +56,20 @@ pub placed-known : (known : KnownLayouts) (table page : ℕ) (bytes : List ℕ) 
     → placed_in (sizes_of known) table page bytes ≡ slots_by layout table page bytes
 placed-known known table page bytes layout is = ap (λ (o : Option Layout). slots_from (rows.width_by o) table page 0 (rows.slot_count_by o) (drop 8 bytes)) is
 
--- a row by a layout that is known is one by the layout
-pub row-known : (known : KnownLayouts) (table : ℕ) (layout : Layout) → layout_of known table ≡ Some layout → (slot : List ℕ) → row_with layout (table, slot) ≡ row_in known (table, slot)
-row-known known table layout is slot = ap (λ (o : Option Layout). cond (is_free slot) None (rows.row_by o table slot)) (sym is)
-
--- the free slots of the table that the page belongs to
-pub free-own : (width table page number count : ℕ) (bytes : List ℕ) → free_in table (slots_from width table page number count bytes) ≡ free_from width page number count bytes
-free-own width table page number zero bytes = refl
-free-own width table page number (suc count) bytes =
-    let rest = free-own width table page (number + 1) count (drop width bytes) in
-    let kept : List PlacedSlot = filter (λ slot. nat_eq slot.0.table table && is_free slot.1.1) (slots_from width table page (number + 1) count (drop width bytes)) in
-    let slot : PlacedSlot = (record { table = table; position = slot_position width page number }, (table, take width bytes)) in
-    one_own (nat_eq table table) (is_free (take width bytes)) slot kept (eq-eqb table table refl)
-    ∙ ap (λ positions. cond (is_free (take width bytes)) (slot_position width page number ∷ positions) positions) rest
+-- the first slot of those that are left is free, or it is not
+pub free-next : (width table page number left more : ℕ) (rest front behind : List ℕ) (free : Bool) → left ≡ suc more → front ≡ take width rest → behind ≡ drop width rest → is_free front ≡ free
+    → free_in table (slots_from width table page number left rest)
+    ≡ cond free (slot_position width page number ∷ free_in table (slots_from width table page (number + 1) more behind)) (free_in table (slots_from width table page (number + 1) more behind))
+free-next width table page number left more rest front behind free is first others mark =
+    let slot : PlacedSlot = (record { table = table; position = slot_position width page number }, (table, take width rest)) in
+    let kept : List PlacedSlot = filter (λ slot. nat_eq slot.0.table table && is_free slot.1.1) (slots_from width table page (number + 1) more (drop width rest)) in
+    let own : (nat_eq table table && is_free (take width rest)) ≡ free = ap (λ own. own && is_free (take width rest)) (eq-eqb table table refl) ∙ ap is_free (sym first) ∙ mark in
+    rw (is, others) (ap (λ b. map (λ (s : PlacedSlot). s.0.position) (cond b (slot ∷ kept) kept)) own ∙ either free slot kept)
   where
-    one_own : (own free : Bool) (slot : PlacedSlot) (kept : List PlacedSlot) → own ≡ true
-        → map (λ s. s.0.position) (cond (own && free) (slot ∷ kept) kept) ≡ cond free (slot.0.position ∷ map (λ s. s.0.position) kept) (map (λ s. s.0.position) kept)
-    one_own true true slot kept is = refl
-    one_own true false slot kept is = refl
-    one_own false free slot kept is = cc
+    either : (free : Bool) (slot : PlacedSlot) (kept : List PlacedSlot) → map (λ (s : PlacedSlot). s.0.position) (cond free (slot ∷ kept) kept)
+        ≡ cond free (slot.0.position ∷ map (λ (s : PlacedSlot). s.0.position) kept) (map (λ (s : PlacedSlot). s.0.position) kept)
+    either true slot kept = refl
+    either false slot kept = refl
 
 -- no slot of a page is a free one of another table
 pub free-other : (other width table page number count : ℕ) (bytes : List ℕ) → nat_eq table other ≡ false → free_in other (slots_from width table page number count bytes) ≡ []
@@ -119,27 +114,10 @@ table-within known table layout is =
         falls false false true x y z = refl
         falls false false false x y z = refl
 
--- the free slots of a page that are left, one after another
-pub free-first : (width page number left more : ℕ) (rest front behind : List ℕ) → left ≡ suc more → front ≡ take width rest → behind ≡ drop width rest → slice_index front 0 ≡ 0
-    → free_from width page number left rest ≡ slot_position width page number ∷ free_from width page (number + 1) more behind
-free-first width page number left more rest front behind is first others mark =
-    let marked : is_free (take width rest) ≡ true = ap is_free (sym first) ∙ eq-eqb _ _ mark in
-    rw (is, others) (ap (λ b. cond b (slot_position width page number ∷ free_from width page (number + 1) more (drop width rest)) (free_from width page (number + 1) more (drop width rest))) marked)
-
-pub free-passed : (width page number left more : ℕ) (rest front behind : List ℕ) → left ≡ suc more → front ≡ take width rest → behind ≡ drop width rest → slice_index front 0 ≢ 0
-    → free_from width page number left rest ≡ free_from width page (number + 1) more behind
-free-passed width page number left more rest front behind is first others mark =
-    let marked : is_free (take width rest) ≡ false = ap is_free (sym first) ∙ ne_eqb _ _ mark in
-    rw (is, others) (ap (λ b. cond b (slot_position width page number ∷ free_from width page (number + 1) more (drop width rest)) (free_from width page (number + 1) more (drop width rest))) marked)
-
 -- at first all slots of a page are left
 pub slots-begin : (layout : Layout) (table page : ℕ) (bytes rest : List ℕ) (width count : ℕ) → rest ≡ drop 8 bytes → width ≡ slot_width layout → count ≡ slots_per_page layout
     → slots_from width table page 0 (count - 0) rest ≡ slots_by layout table page bytes
 slots-begin layout table page bytes rest width count is wide many = rw (is, sub-zero, wide, many) refl
-
-pub free-begin : (layout : Layout) (page : ℕ) (bytes rest : List ℕ) (width count : ℕ) → rest ≡ drop 8 bytes → width ≡ slot_width layout → count ≡ slots_per_page layout
-    → free_from width page 0 (count - 0) rest ≡ free_by layout page bytes
-free-begin layout page bytes rest width count is wide many = rw (is, sub-zero, wide, many) refl
 
 -- one more position, and those that are left
 pub positions-next : (width page number left more : ℕ) (old new : List ℕ) (position : ℕ) → left ≡ suc more → position ≡ slot_position width page number → new ≡ old ++ position ∷ []
@@ -150,18 +128,8 @@ positions-next width page number left more old new position is at one = rw (is, 
     regroup [] x ys = refl
     regroup (z ∷ xs) x ys = ap (λ zs. z ∷ zs) (regroup xs x ys)
 
--- a table that is not of the catalogue has no slots of it
-pub body-nowhere : (table : ℕ) → is_of_catalogue table ≡ false → (slot : List ℕ) → body_in (table, slot) ≡ None
-body-nowhere table other slot =
-    let body : (ℕ × List ℕ) × Unit {0} = ((table, drop 1 slot), tt) in
-    ap (λ b. cond (is_free slot) None (cond b (Some body) None)) other ∙ neither (is_free slot)
-  where
-    neither : (b : Bool) → cond {A = Option ((ℕ × List ℕ) × Unit {0})} b None None ≡ None
-    neither true = refl
-    neither false = refl
-
 -- a slot of the catalogue says no row
-pub row-nowhere : (layout : Layout) (table number : ℕ) → layout.head ≡ Catalogue number → (slot : List ℕ) → row_with layout (table, slot) ≡ None
+pub row-nowhere : (layout : Layout) (table number : ℕ) → layout.head ≡ Catalogue number → (slot : List ℕ) → rows.row_with (Some layout) (table, slot) ≡ None
 row-nowhere layout table number is slot = ap (λ (head : Head). cond (is_free slot) None (rows.row_under head layout table slot)) is ∙ neither (is_free slot)
   where
     neither : (b : Bool) → cond {A = Option (Key × Cell)} b None None ≡ None

@@ -1,15 +1,11 @@
 -- The slots of a page by a layout, one after another.
-use Rattle.std.specs.Prelude.{ℕ, zero, suc, ◌+◌, ◌==◌, if◌then◌else◌, List, [], ◌∷◌, map, take, drop, zip, slice_index, Option, None}
+use Rattle.std.specs.Prelude.{ℕ, List, map, drop, zip}
 use Rattle.std.specs.List.{range_with_len}
 use Rattle.mt_rowfile.specs.declared.layout.Layout.{Layout}
 use Rattle.mt_rowfile.specs.Layouts.{slot_width, slots_per_page}
-use Rattle.mt_rowfile.specs.Pages.{is_free, slots_in}
-use Rattle.mt_physplan.specs.declared.key.Cell.{Cell}
-use Rattle.mt_physplan.specs.declared.key.Key.{Key}
+use Rattle.mt_rowfile.specs.Pages.{slots_in}
 use Rattle.mt_tables.specs.Pages.{slot_position}
-use Rattle.mt_tables.specs.Plan.{PlacedSlot}
-use Rattle.mt_tables.specs.Rows.{row_under}
-use Rattle.mt_tables.specs.Tables.{TableSlot}
+use Rattle.mt_tables.specs.Plan.{PlacedSlot, free_in}
 
 -- so many slots of a page, from one with a number on
 abbrev pub slots_from : ℕ → ℕ → ℕ → ℕ → ℕ → List ℕ → List PlacedSlot
@@ -20,21 +16,10 @@ slots_from width table page number count bytes =
 abbrev pub slots_by : Layout → ℕ → ℕ → List ℕ → List PlacedSlot
 slots_by layout table page bytes = slots_from (slot_width layout) table page 0 (slots_per_page layout) (drop 8 bytes)
 
--- where the free ones of so many slots of a page stand
-abbrev pub free_from : ℕ → ℕ → ℕ → ℕ → List ℕ → List ℕ
-free_from width page number zero bytes = []
-free_from width page number (suc count) bytes =
-    if is_free (take width bytes) then slot_position width page number ∷ free_from width page (number + 1) count (drop width bytes)
-    else free_from width page (number + 1) count (drop width bytes)
-
 -- where the free slots of a page stand
-abbrev pub free_by : Layout → ℕ → List ℕ → List ℕ
-free_by layout page bytes = free_from (slot_width layout) page 0 (slots_per_page layout) (drop 8 bytes)
+abbrev pub free_by : Layout → ℕ → ℕ → List ℕ → List ℕ
+free_by layout table page bytes = free_in table (slots_by layout table page bytes)
 
 -- where all slots of a page stand
 abbrev pub positions_by : Layout → ℕ → List ℕ
 positions_by layout page = map (slot_position (slot_width layout) page) (range_with_len 0 (slots_per_page layout))
-
--- the row that a slot of a layout says; a free one says nothing
-abbrev pub row_with : Layout → TableSlot → Option (Key × Cell)
-row_with layout slot = if slice_index slot.1 0 == 0 then None else row_under layout.head layout slot.0 slot.1

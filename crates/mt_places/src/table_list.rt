@@ -93,7 +93,7 @@ impl TableList {
     ) -> Result<(), AllocError>
         requires layout { IsLayout layout.now }
         requires page { page < 2 ^ 28 }
-        ensures { OnOk result (table ≤ 31 → (t : ℕ) → table_in self.new t ≡ with_table table (offered (free_by layout.now page bytes.now)) (λ t. trimmed (table_in self.old t)) t) }
+        ensures { OnOk result (table ≤ 31 → (t : ℕ) → table_in self.new t ≡ with_table table (offered (free_by layout.now table page bytes.now)) (λ t. trimmed (table_in self.old t)) t) }
     {
         trim_all(&mut self.tables);
         let table = table as usize;

@@ -1,13 +1,13 @@
 // The slots of one page, one after another.
-ghost use Rattle.std.specs.Prelude.{◌≡◌, ◌<◌, ◌≤◌, ◌*◌, ◌^◌, length, IfOk, IsTrue, OnOk};
+ghost use Rattle.std.specs.Prelude.{◌≡◌, ◌<◌, ◌≤◌, ◌*◌, ◌^◌, ℕ, length, IfOk, IsTrue, OnOk, Some};
 ghost use Rattle.mt_rowfile.specs.Layouts.{IsLayout, IsOfRows, slot_width};
 ghost use Rattle.mt_rowfile.specs.Slots.{slot_of};
 ghost use Rattle.mt_physplan.specs.Keys.{key_in};
 ghost use Rattle.mt_tables.specs.Pages.{slot_position};
 ghost use Rattle.mt_tables.specs.Plan.{sought, with_place};
-ghost use Rattle.mt_tables.specs.Rows.{body_in, is_of_catalogue};
+ghost use Rattle.mt_tables.specs.Rows.{body_in, is_of_catalogue, row_with};
 ghost use Rattle.mt_places.specs.Held.{offered};
-ghost use Rattle.mt_places.specs.Walked.{free_by, positions_by, row_with, slots_by};
+ghost use Rattle.mt_places.specs.Walked.{free_by, positions_by, slots_by};
 
 use crate::body_places::BodyPlaces;
 use crate::row_places::RowPlaces;
@@ -51,7 +51,7 @@ fn key_at(layout: &Layout, table: u32, slot: &[u8]) -> Key
     }
 }
 
-/// Offers the free slots of a page. `AllocError` is want of memory.
+/// Offers the free slots of a page, whatever table it belongs to. `AllocError` is want of memory.
 pub(crate) fn offer_free(
     places: &mut TablePlaces,
     layout: &Layout,
@@ -61,7 +61,7 @@ pub(crate) fn offer_free(
     requires layout { IsLayout layout.now }
     requires page { page < 2 ^ 28 }
     requires few { length places.old.free ≤ places.old.wanted }
-    ensures { OnOk result (places.new ≡ offered (free_by layout.now page bytes.now) places.old) }
+    ensures { OnOk result ((table : ℕ) → places.new ≡ offered (free_by layout.now table page bytes.now) places.old) }
 {
     let width = slot_width(layout);
     let mut rest = &bytes[PAGE_HEAD..];
@@ -87,7 +87,7 @@ pub(crate) fn look_for_all_rows(
 )
     requires layout { IsLayout layout.now }
     requires page { page < 2 ^ 28 }
-    ensures { rows.new ≡ sought (row_with layout.now) (slots_by layout.now table page bytes.now) rows.old }
+    ensures { rows.new ≡ sought (row_with (Some layout.now)) (slots_by layout.now table page bytes.now) rows.old }
 {
     match layout.head {
         Head::Conventional | Head::Chunk => look_for_rows(rows, layout, table, page, bytes),
@@ -100,7 +100,7 @@ fn look_for_rows(rows: &mut RowPlaces, layout: &Layout, table: u32, page: u64, b
     requires layout { IsLayout layout.now }
     requires rows { IsOfRows layout.now.head }
     requires page { page < 2 ^ 28 }
-    ensures { rows.new ≡ sought (row_with layout.now) (slots_by layout.now table page bytes.now) rows.old }
+    ensures { rows.new ≡ sought (row_with (Some layout.now)) (slots_by layout.now table page bytes.now) rows.old }
 {
     let width = slot_width(layout);
     let mut rest = &bytes[PAGE_HEAD..];
@@ -118,7 +118,7 @@ fn look_for_row(rows: &mut RowPlaces, layout: &Layout, table: u32, position: u64
     requires layout { IsLayout layout.now }
     requires rows { IsOfRows layout.now.head }
     requires width { length slot.now ≡ slot_width layout.now }
-    ensures { rows.new ≡ with_place (row_with layout.now (table, slot.now)) position rows.old }
+    ensures { rows.new ≡ with_place (row_with (Some layout.now) (table, slot.now)) position rows.old }
 {
     if slot[0] != FREE {
         rows.place(&key_at(layout, table, slot), Some(position));

@@ -127,6 +127,7 @@ pub struct Trial<R: Files + Threads + Drop> {
 }
 
 impl<R: Files + Threads + Drop> Trial<R> {
+    /// A folder machine over a fake of the runtime's files, which nothing was asked of yet.
     pub fn new(rt: R, alloc: Global, outside: &Shared) -> Result<Trial<R>, AllocError> {
         Ok(Trial {
             alloc,

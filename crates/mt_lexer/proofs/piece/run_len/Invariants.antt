@@ -1,8 +1,11 @@
 -- The bytes so far may stand in a word.
-use Rattle.std.proofs.Common.{take}
+use Rattle.std.proofs.Common.{◌-◌, ◌≤◌, length, take}
 use Rattle.std.specs.List.{AllPass}
 use Rattle.mt_lexer.specs.Tokens.{is_in_word}
 use Rattle.mt_lexer.proofs.piece.run_len.Given as goal
 
 abbrev pub invariant-loop-len : goal.invariant-loop-len
-invariant-loop-len l = AllPass is_in_word (take l.len l.rest)
+invariant-loop-len l = (l.len ≤ length l.rest) × AllPass is_in_word (take l.len l.rest)
+
+abbrev pub decreases-loop-len : goal.decreases-loop-len
+decreases-loop-len l = length l.rest - l.len

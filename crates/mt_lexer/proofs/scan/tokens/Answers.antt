@@ -1,17 +1,19 @@
--- Each step adds the token that stands at the place.
-use Rattle.std.proofs.Common.{sym, subst}
-use Rattle.mt_lexer.proofs.Tiling.{Reached, Reached-start, Reached-push}
+-- Each step adds the token that stands at the place, or passes over a blank.
+use Rattle.std.proofs.Common.{◌∙◌, sym, subst}
+use Rattle.mt_lexer.proofs.Tiling.{Reached, Reached-start, Reached-push, Reached-blank}
 use Rattle.mt_lexer.proofs.scan.tokens.Goals as goal
 
 pub loop-at-init : goal.loop-at-init
-loop-at-init c = rw c.new-found.ensures (Reached-start c.as_bytes-bytes.result.now c.skip_blanks-at.result c.skip_blanks-at.ensures.gap c.skip_blanks-at.ensures.stops)
+loop-at-init c = rw c.new-found.ensures (Reached-start c.as_bytes-bytes.result.now)
 
-pub loop-at-preserved : goal.loop-at-preserved
-loop-at-preserved c =
+pub loop-at-preserved-in-Some : goal.loop-at-preserved-in-Some
+loop-at-preserved-in-Some c =
     let t = c.in-Some.token in
     let place = c.in-Some.ensures.place in
     let token = c.in-Some.ensures.token in
-    let pushed = c.in_ok-push.ensures.ok in
-    let after = c.skip_blanks-at-in-loop-at.ensures in
     let here : Reached c.as_bytes-bytes.result.now c.loop-at.found t.from = subst (Reached c.as_bytes-bytes.result.now c.loop-at.found) (sym place.0) c.loop-at.invariant in
-    rw pushed (Reached-push c.as_bytes-bytes.result.now c.loop-at.found t token.0 c.skip_blanks-at-in-loop-at.result here token.1 after.gap after.stops)
+    rw c.in_ok-push.ensures.ok (Reached-push c.as_bytes-bytes.result.now c.loop-at.found t token.0 here token.1)
+
+pub loop-at-preserved : goal.loop-at-preserved
+loop-at-preserved c =
+    Reached-blank c.as_bytes-bytes.result.now c.loop-at.found c.loop-at.at c.loop-at.invariant c.loop-at-test.true (sym c.is_blank.ensures ∙ c.if-is_blank.true)
