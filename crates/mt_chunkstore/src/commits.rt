@@ -60,11 +60,14 @@ const CHUNKS: Scan = Scan {
 
 const LONG: FieldKind = FieldKind::Text(255);
 
+const REST: FieldKind = FieldKind::Text(193);
+
+const INT: FieldKind = FieldKind::Int;
+
 /// Fields of 4,075 bytes: with the 13 in front of them a slot has all that a page has for slots.
-#[rustfmt::skip]
 const WIDEST: [FieldKind; 17] = [
-    LONG, LONG, LONG, LONG, LONG, LONG, LONG, LONG, LONG, LONG, LONG, LONG, LONG, LONG, LONG,
-    FieldKind::Text(193), FieldKind::Int,
+    LONG, LONG, LONG, LONG, LONG, LONG, LONG, LONG, LONG, LONG, LONG, LONG, LONG, LONG, LONG, REST,
+    INT,
 ];
 
 const FILLS: [Fill; 4] = [
@@ -404,7 +407,10 @@ fn the_widest_slot_fills_a_page(rt: HostRuntime) -> Result<(), Fail> {
         assert_eq!(rt; page.len(), PAGE_SIZE);
         assert_eq!(rt; &page[..10], b"\x1F\0\0\0\0\0\0\0\x01\x01".as_slice());
         assert_eq!(rt; &page[10..14], [0, 0, 0, row].as_slice());
-        assert_eq!(rt; &page[4086..], b"\0\x01\xFF\xFF\xFF\xFF\xFF\xFF\xFF\xFF".as_slice());
+        assert_eq!(rt;
+            &page[4086..],
+            b"\0\x01\xFF\xFF\xFF\xFF\xFF\xFF\xFF\xFF".as_slice()
+        );
     }
     Ok(())
 }

@@ -44,10 +44,10 @@ pub returns : goal.returns
 returns c known is_known =
     let suits : (change : Change) → c.match-step.result ≡ change → IsSuited known change → IsSuited known c.match-step.result = λ change is. subst (IsSuited known) (sym is) in
     elim c.match-step.branch [
-      in-Put+in_ok-slot-in-Put w ↦ (let slot = w.in_ok-slot-in-Put.ensures in suits _ w.result-is (row_suits known _ is_known slot.mark slot.base slot.chunk slot.values))
-    | in-Trash w ↦ suits _ w.result-is (record { layout = rows; is_known = is_known; suits = (refl, inr refl) })
-    | in-Remove w ↦ suits _ w.result-is (record { layout = rows; is_known = is_known; suits = tt })
-    | in-PutChunk+in_ok-slot-in-PutChunk w ↦ (let slot = w.in_ok-slot-in-PutChunk.ensures in suits _ w.result-is (chunk_suits known _ slot.mark slot.values))
-    | in-PutQuota+in_ok-list_of-in-PutQuota w ↦ suits _ w.result-is (quota_suits known _ (ap length w.in_ok-list_of-in-PutQuota.ensures)).0
-    | in-RemoveQuota+in_ok-list_of-in-RemoveQuota w ↦ suits _ w.result-is (quota_suits known _ (ap length w.in_ok-list_of-in-RemoveQuota.ensures)).1
+      | in-Put+in_ok-slot-in-Put w ↦ (let slot = w.in_ok-slot-in-Put.ensures in suits _ w.result-is (row_suits known _ is_known slot.mark slot.base slot.chunk slot.values))
+      | in-Trash w ↦ suits _ w.result-is (record { layout = rows; is_known = is_known; suits = (refl, inr refl) })
+      | in-Remove w ↦ suits _ w.result-is (record { layout = rows; is_known = is_known; suits = tt })
+      | in-PutChunk+in_ok-slot-in-PutChunk w ↦ (let slot = w.in_ok-slot-in-PutChunk.ensures in suits _ w.result-is (chunk_suits known _ slot.mark slot.values))
+      | in-PutQuota+in_ok-list_of-in-PutQuota w ↦ suits _ w.result-is (quota_suits known _ (ap length w.in_ok-list_of-in-PutQuota.ensures)).0
+      | in-RemoveQuota+in_ok-list_of-in-RemoveQuota w ↦ suits _ w.result-is (quota_suits known _ (ap length w.in_ok-list_of-in-RemoveQuota.ensures)).1
     ]
