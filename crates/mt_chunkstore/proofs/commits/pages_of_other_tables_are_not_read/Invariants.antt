@@ -9,7 +9,7 @@ use Rattle.mt_chunkstore.proofs.commits.pages_of_other_tables_are_not_read.Given
 
 -- the store stands for the machine still, and knows the table
 abbrev pub invariant-loop-scan : goal.invariant-loop-scan
-invariant-loop-scan l = record {
+invariant-loop-scan g l = record {
   stands : Stands l.store (mem_meaning l.machine);
   layout : layout_of (known_in l.store.layouts) 16 ≡ Some (record { head = Conventional; kinds = Int ∷ [] });
 }

@@ -4,6 +4,6 @@ use Rattle.mt_chunkstore.proofs.tests.all_tables_have_sizes.Given as goal
 
 -- the store stands for the machine still
 abbrev pub invariant-loop-table-2 : goal.invariant-loop-table-2
-invariant-loop-table-2 l = record {
+invariant-loop-table-2 g l = record {
   stands : Stands l.store (steady_meaning l.machine);
 }
