@@ -71,6 +71,6 @@ staged_still {changes} {group} {store} {old} {new} staged keeps = record {
   room = staged.room;
   made = λ tells. subst
       (λ (area : Area). MayChange (known_in store.layouts) changes store.pages area
-          → IsGroup (known_in store.layouts) store.pages area (free_at_start (known_in store.layouts) changes store.pages area) changes group)
+      → IsGroup (known_in store.layouts) store.pages area (free_at_start (known_in store.layouts) changes store.pages area) changes group)
       (sym (keeps.pages tells)) (staged.made (keeps.told tells));
 }

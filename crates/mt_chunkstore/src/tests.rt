@@ -1,4 +1,5 @@
-ghost use Rattle.std.specs.Prelude.{◌≡◌, IfOk};
+ghost use Rattle.std.specs.Prelude.{◌≡◌, ◌∷◌, [], IfOk};
+ghost use Rattle.mt_codec.specs.declared.field.FieldKind.TheVariants.{Int};
 ghost use Rattle.mt_rowfile.specs.declared.layout.Head.TheVariants.{Conventional};
 ghost use Rattle.mt_rowfile.specs.Layouts.{IsLayout};
 
@@ -33,7 +34,9 @@ fn lay_pages<M: Machine>(m: &mut M) -> Result<(), Failed> {
     Ok(())
 }
 
-fn list_of(alloc: Global, bytes: &[u8]) -> Result<Bytes, AllocError> {
+pub(crate) fn list_of(alloc: Global, bytes: &[u8]) -> Result<Bytes, AllocError>
+    ensures { IfOk result (λ list. list ≡ bytes.now) }
+{
     Ok(List::from_vec(Vec::from_slice(alloc, bytes)?))
 }
 
@@ -72,7 +75,8 @@ fn pages_are_looked_at(rt: HostRuntime) -> Result<(), Fail> {
     Ok(())
 }
 
-fn one_integer(alloc: Global) -> Result<Layout, AllocError>
+pub(crate) fn one_integer(alloc: Global) -> Result<Layout, AllocError>
+    ensures layout { IfOk result (λ layout. layout ≡ record { head = Conventional; kinds = Int ∷ [] }) }
     ensures head { IfOk result (λ layout. layout.head ≡ Conventional) }
     ensures sound { IfOk result (λ layout. IsLayout layout) }
 {
@@ -104,6 +108,34 @@ fn a_layout_counts_the_slots_of_its_table(rt: HostRuntime) -> Result<(), Fail> {
     };
     assert_eq!(rt; fault, None);
     assert_eq!(rt; sizes.as_slice(), [CHUNKS, rows].as_slice());
+    Ok(())
+}
+
+/// A page for each number below 32, of which 7, 14 and 15 are of no table.
+#[test]
+fn all_tables_have_sizes(rt: HostRuntime) -> Result<(), Fail> {
+    let alloc = rt.alloc();
+    let mut machine = SteadyMachine::new(alloc);
+    machine.write(Area::Pages, 0, b"CHNKFLD1\x01\0\0\0\x20\0\0\0\0\0\0\0")?;
+    for table in 1..32 {
+        machine.write(Area::Pages, 4096 * u64::from(table), &[table])?;
+        machine.write(Area::Pages, 4096 * u64::from(table) + 8, &[1])?;
+    }
+    let mut store = Store::load(&mut machine, alloc)?;
+    for table in 16..32 {
+        store.add_layout(&mut machine, table, one_integer(alloc)?)?;
+    }
+    let mut sizes = Vec::new(alloc);
+    for table in 1..32 {
+        if ![7, 14, 15].contains(&table) {
+            sizes.push(TableSize {
+                table,
+                pages: 1,
+                used: 1,
+            })?;
+        }
+    }
+    assert_eq!(rt; store.sizes(alloc)?.as_slice(), sizes.as_slice());
     Ok(())
 }
 

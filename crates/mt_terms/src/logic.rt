@@ -106,11 +106,26 @@ fn add_member(
     ensures { AddsMember result members.old members.new reader.new (neg_of depth reader.old) }
 {
     if begins_nested(reader) {
-        let next = negation(alloc, reader, depth)?;
-        push(members, next)?;
-        return Ok(());
+        return add_nested(alloc, reader, depth, members);
     }
     let next = predicate(alloc, reader)?;
+    push(members, next)?;
+    Ok(())
+}
+
+/// Takes the condition behind an AND that NOT or a bracket begins, and adds it to those that are kept. It has a
+/// frame of its own, which a predicate need not clear.
+#[cycle(condition)]
+#[inline(never)]
+fn add_nested(
+    alloc: Global,
+    reader: &mut Reader<'_>,
+    depth: usize,
+    members: &mut Option<List<Cond>>,
+) -> Result<(), ReadFault>
+    ensures { AddsMember result members.old members.new reader.new (neg_of depth reader.old) }
+{
+    let next = negation(alloc, reader, depth)?;
     push(members, next)?;
     Ok(())
 }

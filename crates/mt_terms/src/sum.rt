@@ -3,7 +3,7 @@ ghost use Rattle.mt_lexer.specs.Tokens.{Lexeme, Sign};
 ghost use Rattle.mt_reader.specs.Descent.{after, bracketed_of};
 ghost use Rattle.mt_reader.specs.Taken.{Took, TakesAny, TakesInside};
 ghost use Rattle.mt_terms.specs.Descent.{alone_of, term_of, minus_of, sign_of, sum_of, factor_of, expr_of, int_atom};
-ghost use Rattle.mt_terms.specs.Inside.{IsExprInside, AddsTerm};
+ghost use Rattle.mt_terms.specs.Inside.{IsExprInside, TookNumber, AddsTerm};
 
 use crate::leaf::{atom, integer, integer_atom};
 use crate::members::push;
@@ -56,7 +56,8 @@ fn sum_behind(
     Ok(summed(terms))
 }
 
-/// Takes the term behind a sign, and adds it to those that are kept.
+/// Takes the term behind a sign, and adds it to those that are kept. A number goes there at once; other terms are
+/// taken in frames of their own, which a number need not clear.
 #[cycle(expression)]
 fn add_term(
     alloc: Global,
@@ -68,14 +69,46 @@ fn add_term(
     ensures { AddsTerm minus result terms.old terms.new reader.new (term_of (factor_of depth) reader.old) }
 {
     let Some(number) = integer(reader) else {
-        let next = product(alloc, reader, depth)?;
-        push(terms, term(minus, next))?;
-        return Ok(());
+        return add_product(alloc, reader, depth, minus, terms);
     };
-    if !reader.is_at_symbol(Symbol::Star) {
-        push(terms, integer_term(minus, number))?;
-        return Ok(());
+    if reader.is_at_symbol(Symbol::Star) {
+        return add_product_behind(alloc, reader, depth, minus, number, terms);
     }
+    push(terms, integer_term(minus, number))?;
+    Ok(())
+}
+
+/// Takes the factors behind a sign, and adds their product to the terms that are kept.
+#[cycle(expression)]
+#[inline(never)]
+fn add_product(
+    alloc: Global,
+    reader: &mut Reader<'_>,
+    depth: usize,
+    minus: bool,
+    terms: &mut Option<List<Term>>,
+) -> Result<(), ReadFault>
+    ensures { AddsTerm minus result terms.old terms.new reader.new (term_of (factor_of depth) reader.old) }
+{
+    let next = product(alloc, reader, depth)?;
+    push(terms, term(minus, next))?;
+    Ok(())
+}
+
+/// Takes the factors behind a sign and a number, and adds the product of all to the terms that are kept.
+#[cycle(expression)]
+#[inline(never)]
+fn add_product_behind(
+    alloc: Global,
+    reader: &mut Reader<'_>,
+    depth: usize,
+    minus: bool,
+    number: Option<i64>,
+    terms: &mut Option<List<Term>>,
+) -> Result<(), ReadFault>
+    requires { is_some (after (Sign Symbol.Star) reader.old) ≡ true }
+    ensures { (lexemes : List Lexeme) → TookNumber number lexemes reader.old → AddsTerm minus result terms.old terms.new reader.new (term_of (factor_of depth) lexemes) }
+{
     let next = product_behind(alloc, reader, depth, integer_alone(number))?;
     push(terms, term(minus, next))?;
     Ok(())

@@ -61,16 +61,16 @@ and_behind-returns t c = λ lexemes took.
 
 -- a condition behind an AND
 
-pub add_member-returns-in_err-next-2 : goal.add_member-returns-in_err-next-2
-add_member-returns-in_err-next-2 t c =
-    let p = err_from_is_err_and c.from_residual-in_err-next-2.result c.from_residual-in_err-next-2.ensures.1 in
-    rw (p.1, p.2, neg_of-flat c.args.depth c.args.reader.now (sym c.begins_nested.ensures ∙ c.if-begins_nested.false)) c.in_err-next-2.ensures
+pub add_member-returns-in_err-next : goal.add_member-returns-in_err-next
+add_member-returns-in_err-next t c =
+    let p = err_from_is_err_and c.from_residual.result c.from_residual.ensures.1 in
+    rw (p.1, p.2, neg_of-flat c.args.depth c.args.reader.now (sym c.begins_nested.ensures ∙ c.if-begins_nested.false)) c.in_err-next.ensures
 
 pub add_member-returns : goal.add_member-returns
 add_member-returns t c = record {
-  kept = c.in_ok-next-2.next;
-  took = rw (neg_of-flat c.args.depth c.args.reader.now (sym c.begins_nested.ensures ∙ c.if-begins_nested.false)) c.in_ok-next-2.ensures;
-  added = c.in_ok-push-2.ensures;
+  kept = c.in_ok-next.next;
+  took = rw (neg_of-flat c.args.depth c.args.reader.now (sym c.begins_nested.ensures ∙ c.if-begins_nested.false)) c.in_ok-next.ensures;
+  added = c.in_ok-push.ensures;
 }
 
 -- disjunction

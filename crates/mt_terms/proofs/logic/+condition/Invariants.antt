@@ -11,28 +11,31 @@ use Rattle.mt_terms.proofs.Conditions.{neg_shrinks, and_shrinks}
 use Rattle.mt_terms.proofs.logic.+condition.Given as goal
 
 abbrev pub decreases-negation : goal.decreases-negation
-decreases-negation l = 7 * l.depth
+decreases-negation l = 8 * l.depth
 
 abbrev pub decreases-denial : goal.decreases-denial
-decreases-denial l = 7 * l.depth + 1
+decreases-denial l = 8 * l.depth + 1
+
+abbrev pub decreases-add_nested : goal.decreases-add_nested
+decreases-add_nested l = 8 * l.depth + 1
 
 abbrev pub decreases-add_member : goal.decreases-add_member
-decreases-add_member l = 7 * l.depth + 1
+decreases-add_member l = 8 * l.depth + 2
 
 abbrev pub decreases-and_behind : goal.decreases-and_behind
-decreases-and_behind l = 7 * l.depth + 2
+decreases-and_behind l = 8 * l.depth + 3
 
 abbrev pub decreases-conjunction : goal.decreases-conjunction
-decreases-conjunction l = 7 * l.depth + 3
+decreases-conjunction l = 8 * l.depth + 4
 
 abbrev pub decreases-or_behind : goal.decreases-or_behind
-decreases-or_behind l = 7 * l.depth + 4
+decreases-or_behind l = 8 * l.depth + 5
 
 abbrev pub decreases-disjunction : goal.decreases-disjunction
-decreases-disjunction l = 7 * l.depth + 5
+decreases-disjunction l = 8 * l.depth + 6
 
 abbrev pub decreases-condition_in_brackets : goal.decreases-condition_in_brackets
-decreases-condition_in_brackets l = 7 * l.depth + 6
+decreases-condition_in_brackets l = 8 * l.depth + 7
 
 abbrev pub invariant-and_behind-loop-alloc : goal.invariant-and_behind-loop-alloc
 invariant-and_behind-loop-alloc l =

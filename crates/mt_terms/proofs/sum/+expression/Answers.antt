@@ -124,28 +124,28 @@ sum_behind-returns t c = λ lexemes took.
 
 -- a term behind a sign
 
-pub add_term-returns-then-not-is_at_symbol : goal.add_term-returns-then-not-is_at_symbol
-unfolding term_of
-add_term-returns-then-not-is_at_symbol t c = record {
-  kept = option_map expr.Atom (option_map int_atom c.in-Some.number);
-  took =
-      joined_alone (factor_of c.args.depth) (factor_shrinks c.args.depth) (Sign Star) Product IsExprInside c.args.reader.now c.integer.new.reader _ (sym c.if-not-is_at_symbol.ensures)
-      (took_factor c.args.depth c.in-Some.number c.args.reader.now c.integer.new.reader c.in-Some.ensures.some);
-  added = c.in_ok-push-2.ensures ∙ ap (pushed c.args.terms.now) c.integer_term.ensures;
-}
-
-pub add_term-returns-in_err-next-2 : goal.add_term-returns-in_err-next-2
-add_term-returns-in_err-next-2 t c =
-    let p = err_from_is_err_and c.from_residual-in_err-next-2.result c.from_residual-in_err-next-2.ensures.1 in
-    rw (p.1, p.2)
-    (c.in_err-next-2.ensures c.args.reader.now
-    (rw c.integer_alone.ensures (took_factor c.args.depth c.in-Some.number c.args.reader.now c.integer.new.reader c.in-Some.ensures.some)))
+pub add_term-returns-then-is_at_symbol : goal.add_term-returns-then-is_at_symbol
+add_term-returns-then-is_at_symbol t c = c.add_product_behind.ensures c.args.reader.now c.in-Some.ensures.some
 
 pub add_term-returns : goal.add_term-returns
+unfolding term_of
 add_term-returns t c = record {
-  kept = c.in_ok-next-2.next;
+  kept = option_map expr.Atom (option_map int_atom c.in-Some.number);
   took =
-      c.in_ok-next-2.ensures c.args.reader.now
-      (rw c.integer_alone.ensures (took_factor c.args.depth c.in-Some.number c.args.reader.now c.integer.new.reader c.in-Some.ensures.some));
-  added = c.in_ok-push-3.ensures ∙ ap (pushed c.args.terms.now) c.term-2.ensures;
+      joined_alone (factor_of c.args.depth) (factor_shrinks c.args.depth) (Sign Star) Product IsExprInside c.args.reader.now c.integer.new.reader _ (sym c.is_at_symbol.ensures ∙ c.if-is_at_symbol.false)
+      (took_factor c.args.depth c.in-Some.number c.args.reader.now c.integer.new.reader c.in-Some.ensures.some);
+  added = c.in_ok-push.ensures ∙ ap (pushed c.args.terms.now) c.integer_term.ensures;
+}
+
+pub add_product_behind-returns-in_err-next : goal.add_product_behind-returns-in_err-next
+add_product_behind-returns-in_err-next t c = λ lexemes took.
+    let p = err_from_is_err_and c.from_residual.result c.from_residual.ensures.1 in
+    rw (p.1, p.2)
+    (c.in_err-next.ensures lexemes (rw c.integer_alone.ensures (took_factor c.args.depth c.args.number lexemes c.args.reader.now took)))
+
+pub add_product_behind-returns : goal.add_product_behind-returns
+add_product_behind-returns t c = λ lexemes took. record {
+  kept = c.in_ok-next.next;
+  took = c.in_ok-next.ensures lexemes (rw c.integer_alone.ensures (took_factor c.args.depth c.args.number lexemes c.args.reader.now took));
+  added = c.in_ok-push.ensures ∙ ap (pushed c.args.terms.now) c.term.ensures;
 }

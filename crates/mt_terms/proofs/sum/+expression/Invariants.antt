@@ -12,25 +12,31 @@ use Rattle.mt_terms.proofs.Tails.{TermsSoFar}
 use Rattle.mt_terms.proofs.sum.+expression.Given as goal
 
 abbrev pub decreases-factor : goal.decreases-factor
-decreases-factor l = 7 * l.depth
+decreases-factor l = 8 * l.depth
 
 abbrev pub decreases-product_behind : goal.decreases-product_behind
-decreases-product_behind l = 7 * l.depth + 1
+decreases-product_behind l = 8 * l.depth + 1
 
 abbrev pub decreases-product : goal.decreases-product
-decreases-product l = 7 * l.depth + 2
+decreases-product l = 8 * l.depth + 2
+
+abbrev pub decreases-add_product_behind : goal.decreases-add_product_behind
+decreases-add_product_behind l = 8 * l.depth + 2
+
+abbrev pub decreases-add_product : goal.decreases-add_product
+decreases-add_product l = 8 * l.depth + 3
 
 abbrev pub decreases-add_term : goal.decreases-add_term
-decreases-add_term l = 7 * l.depth + 3
+decreases-add_term l = 8 * l.depth + 4
 
 abbrev pub decreases-sum_behind : goal.decreases-sum_behind
-decreases-sum_behind l = 7 * l.depth + 4
+decreases-sum_behind l = 8 * l.depth + 5
 
 abbrev pub decreases-sum : goal.decreases-sum
-decreases-sum l = 7 * l.depth + 5
+decreases-sum l = 8 * l.depth + 6
 
 abbrev pub decreases-sum_in_brackets : goal.decreases-sum_in_brackets
-decreases-sum_in_brackets l = 7 * l.depth + 6
+decreases-sum_in_brackets l = 8 * l.depth + 7
 
 abbrev pub invariant-product_behind-loop-alloc : goal.invariant-product_behind-loop-alloc
 invariant-product_behind-loop-alloc l =
