@@ -1,3 +1,6 @@
+ghost use Rattle.std.specs.Prelude.{◌≡◌, ◌<◌, ◌≤◌, ℕ, IfOk};
+ghost use Rattle.mt_fold.specs.Placements.{HasPlace};
+
 use crate::Shape::{C1, C2, C3, C4, C5, C6};
 use crate::{Fold, Place, Placement, Shape, place_of, valid, valid_placement};
 use mt_list::{Duplicate, List};
@@ -38,7 +41,9 @@ fn columns_of(alloc: Global, kinds: &[Kind]) -> Result<Columns, StrFault> {
 }
 
 /// A fold.
-fn fold_of(alloc: Global, shapes: &[Shape], places: &[Place]) -> Result<Fold, AllocError> {
+fn fold_of(alloc: Global, shapes: &[Shape], places: &[Place]) -> Result<Fold, AllocError>
+    ensures { IfOk result (λ fold. fold.places ≡ places.now) }
+{
     Ok(Fold {
         shapes: List::from_vec(Vec::from_slice(alloc, shapes)?),
         places: List::from_vec(Vec::from_slice(alloc, places)?),
@@ -52,7 +57,9 @@ fn fits_item(alloc: Global, shapes: &[Shape], places: &[Place]) -> Result<bool, 
 }
 
 /// A copy, by the bound alone.
-fn copy_of<T: Duplicate>(value: &T, alloc: Global) -> Result<T, AllocError> {
+fn copy_of<T: Duplicate>(value: &T, alloc: Global) -> Result<T, AllocError>
+    ensures { IfOk result (λ copied. copied ≡ value.now) }
+{
     value.copy(alloc)
 }
 
@@ -193,12 +200,9 @@ fn at_most_sixteen_chunks(rt: HostRuntime) -> Result<(), Fail> {
 }
 
 /// A placement of a table of two base columns, which moves from CONV to one chunk.
-fn moving(
-    alloc: Global,
-    generation: u8,
-    frontier: u64,
-    upto: u64,
-) -> Result<Placement, AllocError> {
+fn moving(alloc: Global, generation: u8, frontier: u64, upto: u64) -> Result<Placement, AllocError>
+    ensures { IfOk result (λ placement. generation ≤ 1 → (column : ℕ) → column < 2 → HasPlace placement column) }
+{
     Ok(Placement::Moving {
         generation,
         before: fold_of(alloc, &[], &[CONV, CONV])?,
@@ -217,20 +221,24 @@ fn places_of_rows(rt: HostRuntime) -> Result<(), Fail> {
     };
     assert_eq!(rt; place_of(&settled, 0, 0), (1, CONV));
     assert_eq!(rt; place_of(&settled, 1, u64::MAX), (1, at(0, 0)));
-    let cases = [
-        (0, 1, (1, at(0, 1))),
-        (0, 2, (0, CONV)),
-        (0, 4, (0, CONV)),
-        (0, 5, (1, at(0, 1))),
-        (1, 1, (0, at(0, 1))),
-        (1, 2, (1, CONV)),
-        (1, 4, (1, CONV)),
-        (1, 5, (0, at(0, 1))),
-    ];
-    for (generation, row, wanted) in cases {
-        let placement = moving(rt.alloc(), generation, 2, 5)?;
-        assert_eq!(rt; place_of(&placement, 1, row), wanted, "{generation} {row}");
-        assert_eq!(rt; place_of(&placement, 0, row).1, CONV, "{row}");
+    for (row, wanted) in [
+        (1, (1, at(0, 1))),
+        (2, (0, CONV)),
+        (4, (0, CONV)),
+        (5, (1, at(0, 1))),
+    ] {
+        let placement = moving(rt.alloc(), 0, 2, 5)?;
+        assert_eq!(rt; place_of(&placement, 1, row), wanted, "{row}");
+        assert_eq!(rt; place_of(&placement, 0, row), (wanted.0, CONV), "{row}");
+    }
+    for (row, wanted) in [
+        (1, (0, at(0, 1))),
+        (2, (1, CONV)),
+        (4, (1, CONV)),
+        (5, (0, at(0, 1))),
+    ] {
+        let placement = moving(rt.alloc(), 1, 2, 5)?;
+        assert_eq!(rt; place_of(&placement, 1, row), wanted, "{row}");
     }
     Ok(())
 }
