@@ -1,3 +1,5 @@
 mod Examples
+pub mod Members
 mod Sorts
+pub mod Taken
 mod Uses

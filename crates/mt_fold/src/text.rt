@@ -1,4 +1,4 @@
-ghost use Rattle.std.specs.Prelude.{◌≡◌, ◌++◌, ◌≤◌, ◌×◌, ℕ, Bool, true, List, codes, flat_map, length, IfOk, OnOk};
+ghost use Rattle.std.specs.Prelude.{◌≡◌, ◌++◌, ◌≤◌, ◌∷◌, [], ℕ, true, List, flat_map, length, IfOk, OnOk};
 ghost use Rattle.std.specs.List.{range_with_len};
 ghost use Rattle.mt_fold.specs.declared.fold.Place.TheVariants.{Conv, Field};
 ghost use Rattle.mt_fold.specs.Folds.{IsValidFold};
