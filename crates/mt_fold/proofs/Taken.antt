@@ -1,19 +1,22 @@
 -- The fields of one sort in some chunks, and those that columns take.
 use Rattle.std.proofs.Common.{◌≡◌, ℕ, zero, suc, ◌+◌, ◌-◌, ◌<◌, ◌≤◌, Bool, true, false, List, [], ◌∷◌, ◌++◌, length, map, take, drop, count_by, if◌then◌else◌, Option, Some, None, slice_get, slice_index_or, refl, sym, ap, subst, ◌∙◌, arith, length-append}
-use Rattle.std.proofs.lemmas.List.{drop-drop, drop_at, get_or-drop, get_or_append_left}
-use Rattle.std.proofs.lemmas.List.FromFn.{get_or-map-range_with_len, length-map-range_with_len}
-use Rattle.std.proofs.lemmas.List.Sums.{count_by_more_yes, sum_by-take-le}
-use Rattle.std.proofs.lemmas.Option.{get_or_from_slice_get, slice_get-get_or, slice_get_within}
+use Rattle.std.proofs.lemmas.List.{append_assoc, drop-drop, drop_at, get_or-drop, get_or_append_left}
+use Rattle.std.proofs.lemmas.List.FromFn.{get_or-map-range_with_len, length-map-range_with_len, map-range_with_len_more}
+use Rattle.std.proofs.lemmas.List.Sums.{count_by_more_no, count_by_more_yes, sum_by-take-le}
+use Rattle.std.proofs.lemmas.Option.{get_or_from_slice_get, slice_get-get_or, slice_get-map, slice_get_read, slice_get_within}
 use Rattle.std.specs.List.{range_with_len}
+use Rattle.std.specs.Option.{option_map}
 use Rattle.mt_codec.specs.declared.field.FieldKind.{FieldKind}
 use Rattle.mt_codec.specs.declared.field.FieldKind.TheVariants.{Int, Text}
+use Rattle.mt_tree.specs.declared.schema.Column.{Column}
+use Rattle.mt_tree.specs.declared.schema.Kind.{Kind}
 use Rattle.mt_fold.specs.declared.fold.Place.{Place}
 use Rattle.mt_fold.specs.declared.fold.Place.TheVariants.{Conv, Field}
 use Rattle.mt_fold.specs.declared.shape.Shape.{Shape}
 use Rattle.mt_fold.specs.declared.shape.Shape.TheVariants.{C1, C2, C3, C4, C5, C6}
-use Rattle.mt_fold.specs.Extended.{FillShapes, place_taken, places_from, places_in, places_taken}
+use Rattle.mt_fold.specs.Extended.{FillShapes, kinds_of, place_taken, places_from, places_in, places_taken}
 use Rattle.mt_fold.specs.Free.{LieIn}
-use Rattle.mt_fold.specs.Shapes.{fields_of, same_sort}
+use Rattle.mt_fold.specs.Shapes.{chunk_kind, fields_of, same_sort}
 use Rattle.mt_fold.proofs.Members.{Side, first, in_first, in_second, made, made_from, second, side}
 use Rattle.mt_fold.proofs.Sorts.{numbers_of}
 
@@ -217,3 +220,46 @@ taken_behind number column shapes kinds fill low =
     let it = stands own.kind number (count_by (same_sort own.kind) (take column kinds)) shapes (place_taken number shapes kinds column) own.is in
     let at_is = it.at_is in
     subst (StandsBehind number) (sym it.place_is) (omega (arith, at_is))
+
+-- what is left of a sort before the column with this position
+abbrev pub left_of : ℕ → List Shape → List FieldKind → ℕ → FieldKind → List Place
+left_of number shapes kinds column kind = drop (count_by (same_sort kind) (take column kinds)) (places_from kind number shapes)
+
+-- a column takes the first that is left of its sort
+pub next_taken : (number column : ℕ) (shapes : List Shape) (kinds : List FieldKind) (kind : FieldKind) → slice_get kinds column ≡ Some kind
+    → slice_index_or (left_of number shapes kinds column kind) 0 Conv ≡ place_taken number shapes kinds column
+next_taken number column shapes kinds kind is =
+    get_or-drop (count_by (same_sort kind) (take column kinds)) (places_from kind number shapes) 0 Conv
+    ∙ ap (λ n. slice_index_or (places_from kind number shapes) n Conv) none_more
+    ∙ ap (λ k. slice_index_or (places_from k number shapes) (count_by (same_sort k) (take column kinds)) Conv) (sym (get_or_from_slice_get kinds column kind Int is))
+  where
+    none_more : count_by (same_sort kind) (take column kinds) + 0 ≡ count_by (same_sort kind) (take column kinds)
+    none_more = omega arith
+
+-- the others of its sort are left then, and all of another sort
+pub rest_of_own : (number column : ℕ) (shapes : List Shape) (kinds : List FieldKind) (kind : FieldKind) → slice_get kinds column ≡ Some kind
+    → drop 1 (left_of number shapes kinds column kind) ≡ left_of number shapes kinds (column + 1) kind
+rest_of_own number column shapes kinds kind is =
+    drop-drop 1 (count_by (same_sort kind) (take column kinds)) (places_from kind number shapes) ∙ ap (λ n. drop n (places_from kind number shapes)) (sym more)
+  where
+    more : count_by (same_sort kind) (take (column + 1) kinds) ≡ count_by (same_sort kind) (take column kinds) + 1
+    more = count_by_more_yes (same_sort kind) kinds column kind (slice_get_within kinds column kind is) (ap (same_sort kind) (get_or_from_slice_get kinds column kind kind is) ∙ own_sort kind)
+
+pub rest_of_other : (number column : ℕ) (shapes : List Shape) (kinds : List FieldKind) (kind other : FieldKind) → slice_get kinds column ≡ Some kind → same_sort other kind ≡ false
+    → left_of number shapes kinds column other ≡ left_of number shapes kinds (column + 1) other
+rest_of_other number column shapes kinds kind other is differs = ap (λ n. drop n (places_from other number shapes)) (sym same)
+  where
+    same : count_by (same_sort other) (take (column + 1) kinds) ≡ count_by (same_sort other) (take column kinds)
+    same = count_by_more_no (same_sort other) kinds column kind (slice_get_within kinds column kind is) (ap (same_sort other) (get_or_from_slice_get kinds column kind kind is) ∙ differs)
+
+-- the kind of one of the columns
+pub kind_known : (columns : List Column) (position : ℕ) (column : Column) (kind : Kind) → position < length columns → column ≡ slice_index_or columns position column → column.kind ≡ kind
+    → slice_get (kinds_of columns) position ≡ Some (chunk_kind kind)
+kind_known columns position column kind low read same =
+    slice_get-map (λ c. chunk_kind c.kind) columns position ∙ ap (option_map (λ (c : Column). chunk_kind c.kind)) (slice_get_read columns (length columns) position column refl low read) ∙ ap (λ k. Some (chunk_kind k)) same
+
+-- one more place behind those that were taken
+pub placed_more : (f : ℕ → Place) (old before after : List Place) (place : Place) (count : ℕ) → before ≡ old ++ map f (range_with_len 0 count) → after ≡ before ++ place ∷ [] → place ≡ f count
+    → after ≡ old ++ map f (range_with_len 0 (count + 1))
+placed_more f old before after place count so_far push same =
+    push ∙ (λ i. so_far i ++ same i ∷ []) ∙ append_assoc old (map f (range_with_len 0 count)) (f count ∷ []) ∙ ap (λ new. old ++ new) (sym (map-range_with_len_more f 0 count count (omega arith)))

@@ -1,7 +1,7 @@
 ghost use Rattle.std.specs.Prelude.{◌≡◌, ◌+◌, ◌≤◌, ◌++◌, drop, length, slice_index_or, IfOk};
 ghost use Rattle.mt_fold.specs.declared.fold.Place.TheVariants.{Conv};
 ghost use Rattle.mt_fold.specs.Extended.{FillShapes, extended_fold, kinds_of, places_taken};
-ghost use Rattle.mt_fold.specs.Free.{LieIn, free_fields};
+ghost use Rattle.mt_fold.specs.Free.{HaveFewChunks, LieIn, free_fields};
 
 use crate::{Fold, Place, Places, Shape, Shapes};
 use mt_codec::FieldKind;
@@ -93,10 +93,10 @@ fn all_places(
 impl Fields<'_> {
     /// Takes the first that is free. Where there is none, it is the conventional row.
     fn take_first(&mut self) -> Place
-        requires { self.old.chunk + length self.old.shapes.now ≤ 16 }
+        requires { HaveFewChunks self.old }
         ensures first { result ≡ slice_index_or (free_fields self.old) 0 Conv }
         ensures rest { free_fields self.new ≡ drop 1 (free_fields self.old) }
-        ensures few { self.new.chunk + length self.new.shapes.now ≤ 16 }
+        ensures few { HaveFewChunks self.new }
     {
         while let Some((shape, behind)) = self.shapes.split_first() {
             let (start, count) = range_of(*shape, self.kind);
