@@ -1,4 +1,5 @@
 mod Examples
+pub mod Extensions
 pub mod Members
 mod Sorts
 pub mod Taken

@@ -8,16 +8,16 @@ use Rattle.std.specs.List.{range_with_len}
 
 -- the i-th member of two lists in a row stands in the first or in the second
 pub data Side {X : Type 0} (front back : List X) (i : ℕ) (x : X) : Type 0 where
-  first : i < length front → slice_get front i ≡ Some x → Side front back i x
-  second : (j : ℕ) → i ≡ length front + j → slice_get back j ≡ Some x → Side front back i x
+  stands_in_first : i < length front → slice_get front i ≡ Some x → Side front back i x
+  stands_in_second : (j : ℕ) → i ≡ length front + j → slice_get back j ≡ Some x → Side front back i x
 
 one_more : {X : Type 0} (y : X) (front back : List X) (i : ℕ) (x : X) → Side front back i x → Side (y ∷ front) back (suc i) x
-one_more y front back i x (first low is) = first (omega arith) is
-one_more y front back i x (second j behind is) = second j (omega arith) is
+one_more y front back i x (stands_in_first low is) = stands_in_first (omega arith) is
+one_more y front back i x (stands_in_second j behind is) = stands_in_second j (omega arith) is
 
 pub side : {X : Type 0} (front back : List X) (i : ℕ) (x : X) → slice_get (front ++ back) i ≡ Some x → Side front back i x
-side [] back i x is = second i (omega arith) is
-side (y ∷ front) back zero x is = first (omega arith) is
+side [] back i x is = stands_in_second i (omega arith) is
+side (y ∷ front) back zero x is = stands_in_first (omega arith) is
 side (y ∷ front) back (suc i) x is = one_more y front back i x (side front back i x is)
 
 pub in_first : {X : Type 0} (front back : List X) (i : ℕ) (x : X) → slice_get front i ≡ Some x → slice_get (front ++ back) i ≡ Some x
@@ -88,3 +88,9 @@ pub ranked : {X : Type 0} (p : X → Bool) (xs : List X) (end rank : ℕ) → ra
 ranked p xs zero rank low = absurd (omega arith)
 ranked p [] (suc end) rank low = absurd (omega arith)
 ranked p (x ∷ xs) (suc end) rank low = ranked_by p x xs end rank (ranked p xs end) low (p x) refl
+
+-- each position below the length has a member
+pub member_at : {X : Type 0} (xs : List X) (i : ℕ) → i < length xs → (x : X) × (slice_get xs i ≡ Some x)
+member_at [] i low = absurd (omega arith)
+member_at (y ∷ xs) zero low = (y, refl)
+member_at (y ∷ xs) (suc i) low = member_at xs i (omega arith)

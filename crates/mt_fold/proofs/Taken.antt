@@ -17,7 +17,7 @@ use Rattle.mt_fold.specs.declared.shape.Shape.TheVariants.{C1, C2, C3, C4, C5, C
 use Rattle.mt_fold.specs.Extended.{FillShapes, kinds_of, place_taken, places_from, places_in, places_taken}
 use Rattle.mt_fold.specs.Free.{LieIn}
 use Rattle.mt_fold.specs.Shapes.{chunk_kind, fields_of, same_sort}
-use Rattle.mt_fold.proofs.Members.{Side, first, in_first, in_second, made, made_from, second, side}
+use Rattle.mt_fold.proofs.Members.{Side, in_first, in_second, made, made_from, side, stands_in_first, stands_in_second}
 use Rattle.mt_fold.proofs.Sorts.{numbers_of}
 
 -- the first field of a sort in a chunk, and how many it has there
@@ -137,8 +137,8 @@ stands kind number rank (shape ∷ shapes) place is =
   where
     by : ((inner : ℕ) → slice_get (places_from kind (number + 1) shapes) inner ≡ Some place → Stands kind (number + 1) inner shapes place) → Side (places_in kind number shape) (places_from kind (number + 1) shapes) rank place
         → Stands kind number rank (shape ∷ shapes) place
-    by rest (first low here) = first_stands kind number rank shape shapes place here
-    by rest (second inner sum there) = next_stands kind number rank inner shape shapes place sum (rest inner there)
+    by rest (stands_in_first low here) = first_stands kind number rank shape shapes place here
+    by rest (stands_in_second inner sum there) = next_stands kind number rank inner shape shapes place sum (rest inner there)
 
 -- each field of the sort is one of the places, with this rank
 pub stands_there : (kind : FieldKind) (number : ℕ) (shapes : List Shape) (at chunk field rank : ℕ) (shape : Shape) → at ≡ number + chunk → slice_get shapes chunk ≡ Some shape → start_of kind shape ≤ field
@@ -161,7 +161,7 @@ pub stands_other : (kind : FieldKind) (number other rank : ℕ) (shapes : List S
     → slice_get (places_from kind other shapes) rank ≡ Some (Field (other + it.chunk) it.field)
 stands_other kind number other rank shapes place it = stands_there kind other shapes (other + it.chunk) it.chunk it.field rank it.shape refl it.shape_is it.behind it.within it.rank_is
 
-own_sort : (kind : FieldKind) → same_sort kind kind ≡ true
+pub own_sort : (kind : FieldKind) → same_sort kind kind ≡ true
 own_sort Int = refl
 own_sort (Text size) = refl
 
