@@ -8,6 +8,11 @@ abbrev pub parts_text : Bool → List (List ℕ) → List ℕ
 parts_text true parts = join_by (λ part. part) (codes ", ") parts
 parts_text false parts = flat_map (λ part. codes ", " ++ part) parts
 
+-- what stands in front of a part
+abbrev pub separator : Bool → List ℕ
+separator true = []
+separator false = codes ", "
+
 -- whether what comes behind these parts is the first of the list
 abbrev pub first_behind : Bool → List (List ℕ) → Bool
 first_behind first [] = first

@@ -1,8 +1,8 @@
-ghost use Rattle.std.specs.Prelude.{◌≡◌, ◌++◌, ◌≤◌, ◌∷◌, [], ℕ, true, List, flat_map, length, IfOk, OnOk};
+ghost use Rattle.std.specs.Prelude.{◌≡◌, ◌++◌, ◌≤◌, true, flat_map, length, IfOk, OnOk};
 ghost use Rattle.std.specs.List.{range_with_len};
 ghost use Rattle.mt_fold.specs.declared.fold.Place.TheVariants.{Conv, Field};
 ghost use Rattle.mt_fold.specs.Folds.{IsValidFold};
-ghost use Rattle.mt_fold.specs.Parts.{first_behind, parts_text};
+ghost use Rattle.mt_fold.specs.Parts.{first_behind, parts_text, separator};
 ghost use Rattle.mt_fold.specs.Texts as texts;
 
 use crate::{Fold, Place, Shape};
@@ -111,7 +111,7 @@ fn push_names(
 
 /// Adds the comma and the space in front of what is not the first of its list.
 fn push_separator(first: bool, into: &mut ReplyText) -> Result<(), AllocError>
-    ensures { OnOk result ((part : List ℕ) → into.new ++ part ≡ into.old ++ parts_text first (part ∷ [])) }
+    ensures { OnOk result (into.new ≡ into.old ++ separator first) }
 {
     if first {
         Ok(())
