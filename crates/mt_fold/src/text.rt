@@ -1,5 +1,5 @@
 ghost use Rattle.std.specs.Prelude.{◌≡◌, ◌++◌, ◌≤◌, true, flat_map, length, IfOk, OnOk};
-ghost use Rattle.std.specs.List.{range_with_len};
+ghost use Rattle.std.specs.List.{list_any, range_with_len};
 ghost use Rattle.mt_fold.specs.declared.fold.Place.TheVariants.{Conv, Field};
 ghost use Rattle.mt_fold.specs.Folds.{IsValidFold};
 ghost use Rattle.mt_fold.specs.Parts.{first_behind, parts_text, separator};
@@ -26,7 +26,7 @@ fn push_conv(fold: &Fold, columns: &[Column], into: &mut ReplyText) -> Result<bo
     ensures text { OnOk result (into.new ≡ into.old ++ parts_text true (texts.conv_part (texts.names_at fold.now columns.now Conv))) }
     ensures first { IfOk result (λ first. first ≡ first_behind true (texts.conv_part (texts.names_at fold.now columns.now Conv))) }
 {
-    if !fold.places.as_slice().contains(&Place::Conv) {
+    if !has_place(fold, Place::Conv) {
         return Ok(true);
     }
     into.push_bytes(b"CONV (")?;
@@ -100,13 +100,30 @@ fn push_names(
     ensures first { IfOk result (λ behind. behind ≡ first_behind first (texts.names_at fold.now columns.now place)) }
 {
     for (at, column) in fold.places.as_slice().iter().zip(columns) {
-        if *at == place {
+        if is_place(place, *at) {
             push_separator(first, into)?;
             into.push_bytes(column.name.as_str().as_bytes())?;
             first = false;
         }
     }
     Ok(first)
+}
+
+/// Whether a column lies at that place.
+fn has_place(fold: &Fold, place: Place) -> bool
+    ensures { result ≡ list_any (texts.is_place place) fold.now.places }
+{
+    fold.places
+        .as_slice()
+        .iter()
+        .any(|other| is_place(place, *other))
+}
+
+/// Whether two places are one.
+fn is_place(place: Place, other: Place) -> bool
+    ensures { result ≡ texts.is_place place other }
+{
+    place == other
 }
 
 /// Adds the comma and the space in front of what is not the first of its list.
