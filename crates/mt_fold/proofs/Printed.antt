@@ -1,7 +1,7 @@
 -- How parts with commas between are printed one after another.
-use Rattle.std.proofs.Common.{◌≡◌, ℕ, ◌+◌, ◌<◌, ◌≤◌, Bool, true, false, ◌||◌, List, [], ◌∷◌, ◌++◌, length, map, take, codes, get_or, refl, sym, ap, ◌∙◌, arith}
+use Rattle.std.proofs.Common.{◌≡◌, ℕ, ◌+◌, ◌<◌, ◌≤◌, Bool, true, false, ◌||◌, if◌then◌else◌, List, [], ◌∷◌, ◌++◌, length, map, take, codes, get_or, refl, sym, ap, ◌∙◌, arith}
 use Rattle.std.proofs.lemmas.Bool.{false≢true}
-use Rattle.std.proofs.lemmas.List.{append-nil, append_assoc, map-append, map-id, map_more, take-map, take_all}
+use Rattle.std.proofs.lemmas.List.{append-nil, append_assoc, map-append, length-map, map-id, map_more, take-map, take_all}
 use Rattle.std.proofs.lemmas.List.Concat.{flat_map-append}
 use Rattle.std.proofs.lemmas.List.Elements.{filter_more}
 use Rattle.std.proofs.lemmas.List.FromFn.{get_or-range_with_len, length-range_with_len, map-range_with_len_more}
@@ -92,12 +92,79 @@ names_in_more fold columns chunk count =
     range_more = sym (map-id (range_with_len 0 (count + 1))) ∙ map-range_with_len_more (λ n. n) 0 count count (omega arith) ∙ ap (λ range. range ++ count ∷ []) (map-id (range_with_len 0 count))
 
 -- the parts of the chunks, one more and all
-part_of : Fold → List Column → ℕ × Shape → List ℕ
-part_of fold columns c = group_text (shape_name c.1) (chunk_names fold columns c.0 c.1)
-
-pub chunk_parts_more : (fold : Fold) (columns : List Column) (chunk : ℕ) (shape : Shape) → chunk < length fold.shapes → shape ≡ get_or fold.shapes chunk shape
+pub chunk_parts_more : (fold : Fold) (columns : List Column) (chunk : ℕ) (shape default : Shape) → chunk < length fold.shapes → shape ≡ get_or fold.shapes chunk default
     → take (chunk + 1) (chunk_parts fold columns) ≡ take chunk (chunk_parts fold columns) ++ group_text (shape_name shape) (chunk_names fold columns chunk shape) ∷ []
-chunk_parts_more fold columns chunk shape low read = ?
+chunk_parts_more fold columns chunk shape default low read =
+    take-map part (chunk + 1) pairs ∙ map_more part pairs chunk (chunk, default) (omega (arith, low, length-zip numbers fold.shapes, size))
+    ∙ (λ i. sym (take-map part chunk pairs) i ++ part (read_pair i) ∷ [])
+  where
+    part : ℕ × Shape → List ℕ
+    part c = group_text (shape_name c.1) (chunk_names fold columns c.0 c.1)
+
+    numbers : List ℕ
+    numbers = range_with_len 0 (length fold.shapes)
+
+    pairs : List (ℕ × Shape)
+    pairs = zip numbers fold.shapes
+
+    size : length numbers ≡ length fold.shapes
+    size = length-range_with_len 0 (length fold.shapes)
+
+    number : get_or numbers chunk chunk ≡ chunk
+    number = get_or-range_with_len 0 (length fold.shapes) chunk chunk low ∙ omega arith
+
+    read_pair : get_or pairs chunk (chunk, default) ≡ (chunk, shape)
+    read_pair = get_or-zip numbers fold.shapes chunk (chunk, default) (omega (arith, low, size)) low ∙ (λ i. (number i, sym read i))
 
 pub chunk_parts_all : (fold : Fold) (columns : List Column) (chunk : ℕ) → length fold.shapes ≤ chunk → take chunk (chunk_parts fold columns) ≡ chunk_parts fold columns
-chunk_parts_all fold columns chunk past = ?
+chunk_parts_all fold columns chunk past =
+    take_all chunk (chunk_parts fold columns)
+    (omega (arith, past, length-map (zip numbers fold.shapes) (λ c. group_text (shape_name c.1) (chunk_names fold columns c.0 c.1)), length-zip numbers fold.shapes))
+  where
+    numbers : List ℕ
+    numbers = range_with_len 0 (length fold.shapes)
+
+-- the columns at a place where none lies there, and where one does
+nothing_passes : (places : List Place) (columns : List Column) (place : Place) → list_any (is_place place) places ≡ false → filter (λ (c : Place × Column). is_place place c.0) (zip places columns) ≡ []
+nothing_passes [] columns place none = refl
+nothing_passes (at ∷ places) [] place none = refl
+nothing_passes (at ∷ places) (column ∷ columns) place none = by (is_place place at) none (nothing_passes places columns place)
+  where
+    rest : List (Place × Column)
+    rest = filter (λ (c : Place × Column). is_place place c.0) (zip places columns)
+
+    by : (is : Bool) → (is || list_any (is_place place) places) ≡ false → (list_any (is_place place) places ≡ false → rest ≡ []) → (if is then (at, column) ∷ rest else rest) ≡ []
+    by true none nothing = cc
+    by false none nothing = nothing none
+
+abbrev names_of : List (Place × Column) → List (List ℕ)
+names_of pairs = map (λ c. c.1.name) pairs
+
+something_passes : (places : List Place) (columns : List Column) (place : Place) → length places ≡ length columns → list_any (is_place place) places ≡ true
+    → (name : List ℕ) × (names : List (List ℕ)) × (names_of (filter (λ (c : Place × Column). is_place place c.0) (zip places columns)) ≡ name ∷ names)
+something_passes [] columns place same some = absurd (false≢true some)
+something_passes (at ∷ places) [] place same some = absurd (omega arith)
+something_passes (at ∷ places) (column ∷ columns) place same some = by (is_place place at) some (something_passes places columns place (omega arith))
+  where
+    rest : List (Place × Column)
+    rest = filter (λ (c : Place × Column). is_place place c.0) (zip places columns)
+
+    by : (is : Bool) → (is || list_any (is_place place) places) ≡ true → (list_any (is_place place) places ≡ true → (name : List ℕ) × (names : List (List ℕ)) × (names_of rest ≡ name ∷ names))
+        → (name : List ℕ) × (names : List (List ℕ)) × (names_of (if is then (at, column) ∷ rest else rest) ≡ name ∷ names)
+    by true some found = (column.name, names_of rest, refl)
+    by false some found = found some
+
+-- the part of the conventional row
+pub no_conv : (fold : Fold) (columns : List Column) → list_any (is_place Conv) fold.places ≡ false → conv_part (names_at fold columns Conv) ≡ []
+no_conv fold columns none = ap (λ pairs. conv_part (names_of pairs)) (nothing_passes fold.places columns Conv none)
+
+pub one_conv : (fold : Fold) (columns : List Column) → length fold.places ≡ length columns → list_any (is_place Conv) fold.places ≡ true
+    → conv_part (names_at fold columns Conv) ≡ group_text (codes "CONV") (names_at fold columns Conv) ∷ []
+one_conv fold columns same some =
+    let it = something_passes fold.places columns Conv same some in
+    ap conv_part it.2 ∙ ap (λ names. group_text (codes "CONV") names ∷ []) (sym it.2)
+
+pub conv_more : (old after : List ℕ) (names : List (List ℕ)) → after ≡ ((old ++ codes "CONV (") ++ parts_text true names) ++ codes ")" → after ≡ old ++ parts_text true (group_text (codes "CONV") names ∷ [])
+conv_more old after names push =
+    push ∙ ap (λ text. text ++ codes ")") (append_assoc old (codes "CONV (") (parts_text true names)) ∙ append_assoc old (codes "CONV (" ++ parts_text true names) (codes ")")
+    ∙ ap (λ text. old ++ text) (sym (append-nil ((codes "CONV (" ++ parts_text true names) ++ codes ")")))
