@@ -1,12 +1,12 @@
 -- A valid fold with the chunks of further columns is valid.
-use Rattle.std.proofs.Common.{◌≡◌, ℕ, ◌+◌, ◌-◌, ◌<◌, ◌≤◌, ◌⊎◌, inl, inr, true, List, ◌++◌, length, map, take, count_by, Option, Some, None, slice_get, option_and_then, refl, sym, ap, subst, ◌∙◌, arith, length-append}
+use Rattle.std.proofs.Common.{◌≡◌, ℕ, ◌+◌, ◌-◌, ◌<◌, ◌≤◌, ◌⊎◌, inl, inr, true, List, ◌++◌, length, take, count_by, Option, Some, None, slice_get, option_and_then, refl, sym, ap, subst, ◌∙◌, arith, length-append}
 use Rattle.std.proofs.lemmas.Bool.{cases_lt, cases_order}
 use Rattle.std.proofs.lemmas.List.{length-map}
 use Rattle.std.proofs.lemmas.List.FromFn.{length-map-range_with_len}
 use Rattle.std.proofs.lemmas.Option.{same_Some, slice_get-map, slice_get_within}
 use Rattle.std.specs.Option.{option_map}
 use Rattle.mt_codec.specs.declared.field.FieldKind.{FieldKind}
-use Rattle.mt_codec.specs.declared.field.FieldKind.TheVariants.{Int, Text}
+use Rattle.mt_codec.specs.declared.field.FieldKind.TheVariants.{Text}
 use Rattle.mt_tree.specs.declared.schema.Column.{Column}
 use Rattle.mt_tree.specs.declared.schema.Kind.{Kind}
 use Rattle.mt_tree.specs.declared.schema.Kind.TheVariants.{Integer, Varchar}
@@ -15,14 +15,14 @@ use Rattle.mt_fold.specs.declared.fold.Place.{Place}
 use Rattle.mt_fold.specs.declared.fold.Place.TheVariants.{Conv, Field}
 use Rattle.mt_fold.specs.declared.shape.Shape.{Shape}
 use Rattle.mt_fold.specs.declared.shape.Shape.TheVariants.{C1, C2, C3, C4, C5, C6}
-use Rattle.mt_fold.specs.Clauses.{AreApart, AreBase, AreChunks, AreFields, AreFirst, ArePlaced, Fit, Follows, HasColumn, HaveColumns, IsNext, IsTaken, kind_at}
+use Rattle.mt_fold.specs.Clauses.{AreApart, AreBase, AreFirst, Fit, HasColumn, HaveColumns, IsNext, IsTaken, kind_at}
 use Rattle.mt_fold.specs.Extended.{FillShapes, extended_fold, kinds_of, place_taken, places_from, places_taken}
 use Rattle.mt_fold.specs.Folds.{IsValidFold}
 use Rattle.mt_fold.specs.Shapes.{chunk_kind, fields_of, same_sort}
 use Rattle.mt_fold.proofs.Members.{Ranked, Side, in_first, in_second, member_at, rank_less, ranked, side, stands_in_first, stands_in_second}
 use Rattle.mt_fold.proofs.Sorts.{is_number, is_text, number_below, numbers_of, stands_at, text_behind}
-use Rattle.mt_fold.proofs.Taken.{Stands, Takes, count_of, fields_before, own_sort, stands, stands_other, stands_there, start_of, taken_from, takes}
-use Rattle.mt_fold.proofs.Uses.{chunks_from, fields_from, placed_from, valid_from}
+use Rattle.mt_fold.proofs.Taken.{Stands, count_of, fields_before, own_sort, stands, stands_other, stands_there, start_of, taken_from, takes}
+use Rattle.mt_fold.proofs.Uses.{fields_from, valid_from}
 
 -- the texts of a chunk stand behind its integers
 texts_behind : (size : ℕ) (shape : Shape) → numbers_of shape + count_of (Text size) shape ≡ length (fields_of shape)
@@ -144,7 +144,7 @@ module _ (number : ℕ) (added : List Column) (shapes : List Shape) (fill : Fill
       let one_chunk : first.inner ≡ second.inner = (let is = first.chunk_is in let other = second.chunk_is in omega (arith, is, other)) in
       let one_shape : first.shape ≡ second.shape = same_Some _ _ (sym first.shape_is ∙ ap (slice_get shapes) one_chunk ∙ second.shape_is) in
       let one_kind : chunk_kind first.column.kind ≡ chunk_kind second.column.kind =
-          same_Some _ _ (sym (put_kind a chunk field first) ∙ ap (λ n. kind_at shapes n field) one_chunk ∙ put_kind b chunk field second) in
+      same_Some _ _ (sym (put_kind a chunk field first) ∙ ap (λ n. kind_at shapes n field) one_chunk ∙ put_kind b chunk field second) in
       let one_rank = same_rank shapes _ _ first.inner second.inner first.shape second.shape field _ _ one_kind one_chunk one_shape first.rank_is second.rank_is in
       let earlier = rank_less (same_sort (chunk_kind first.column.kind)) kinds a b (chunk_kind first.column.kind) less (kind_of added a first.column first.column_is) (own_sort (chunk_kind first.column.kind)) in
       let as_second = ap (λ k. count_by (same_sort k) (take b kinds)) one_kind in
@@ -162,12 +162,14 @@ module _ (number : ℕ) (added : List Column) (shapes : List Shape) (fill : Fill
       → Ranked (same_sort (chunk_kind column.kind)) (kinds_of added) position rank → IsTaken new_places chunk field
   taken_by_rank position chunk field rank column there it =
       let other = column_of added it.at it.member it.is in
-      let one_kind : chunk_kind other.0.kind ≡ chunk_kind column.kind = same_kind column.kind other.0.kind (ap (same_sort (chunk_kind column.kind)) other.2 ∙ it.passes) in
-      (it.at, taken_from number it.at shapes (kinds_of added) (Field chunk field) (record {
-        kind = chunk_kind column.kind;
-        kind_is = it.is ∙ ap Some (sym other.2 ∙ one_kind);
-        is = ap (slice_get (places_from (chunk_kind column.kind) number shapes)) it.rank_is ∙ there;
-      }))
+      let one_kind : chunk_kind other.0.kind ≡ chunk_kind column.kind = same_kind column.kind other.0.kind (ap (same_sort (chunk_kind column.kind)) other.2 ∙ it.passes) in (
+        it.at,
+        taken_from number it.at shapes (kinds_of added) (Field chunk field) (record {
+          kind = chunk_kind column.kind;
+          kind_is = it.is ∙ ap Some (sym other.2 ∙ one_kind);
+          is = ap (slice_get (places_from (chunk_kind column.kind) number shapes)) it.rank_is ∙ there;
+        }),
+      )
 
   -- and so is the field before one of them, if it is of the same kind
   before_taken : (position chunk field before : ℕ) (it : Put number shapes added position chunk field) → field ≡ before + 1 → slice_get (fields_of it.shape) before ≡ Some (chunk_kind it.column.kind) → IsTaken new_places chunk before
@@ -247,7 +249,7 @@ module _ (fold : Fold) (columns added : List Column) (base_len : ℕ) (shapes : 
       let same : length fold.shapes + there.chunk ≡ chunk = omega (arith, one, at_is, chunk_is) in
       let moved = stands_other it.kind 0 (length fold.shapes) (count_by (same_sort it.kind) (take column (kinds_of added))) shapes (Field inner field) there in
       let taken = taken_from (length fold.shapes) column shapes (kinds_of added) (Field chunk there.field)
-          (record { kind = it.kind; kind_is = it.kind_is; is = moved ∙ ap (λ n. Some (Field n there.field)) same }) in
+      (record { kind = it.kind; kind_is = it.kind_is; is = moved ∙ ap (λ n. Some (Field n there.field)) same }) in
       (there.field, (length fold.places + column, in_second fold.places added_places (length fold.places + column) column (Field chunk there.field) refl taken))
 
   each_chunk : HaveColumns (length all_shapes) all_places

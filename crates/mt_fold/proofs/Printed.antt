@@ -12,7 +12,6 @@ use Rattle.mt_fold.specs.declared.fold.Fold.{Fold}
 use Rattle.mt_fold.specs.declared.fold.Place.{Place}
 use Rattle.mt_fold.specs.declared.fold.Place.TheVariants.{Conv, Field}
 use Rattle.mt_fold.specs.declared.shape.Shape.{Shape}
-use Rattle.mt_fold.specs.declared.shape.Shape.TheVariants.{C1}
 use Rattle.mt_fold.specs.Parts.{first_behind, parts_text, separator}
 use Rattle.mt_fold.specs.Texts.{chunk_names, chunk_parts, conv_part, group_text, is_place, names_at, shape_name}
 
@@ -55,7 +54,7 @@ abbrev pub names_among : List Place → List Column → Place → ℕ → List (
 names_among places columns place count = map (λ c. c.1.name) (filter (λ c. is_place place c.0) (take count (zip places columns)))
 
 module _ (places : List Place) (columns : List Column) (place at : Place) (column : Column) (count more : ℕ) (next : more ≡ count + 1) (low : count < length places) (below : count < length columns)
-  (at_is : at ≡ get_or places count at) (column_is : column ≡ get_or columns count column) where
+    (at_is : at ≡ get_or places count at) (column_is : column ≡ get_or columns count column) where
   names_next : (is : Bool) → is_place place at ≡ is
       → names_among places columns place more ≡ names_among places columns place count ++ map (λ (c : Place × Column). c.1.name) (filter (λ (c : Place × Column). is) ((at, column) ∷ []))
   names_next is same =

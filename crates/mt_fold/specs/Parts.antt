@@ -1,5 +1,5 @@
 -- How a list of names or parts is printed piece by piece.
-use Rattle.std.specs.Prelude.{ℕ, Bool, true, false, ◌&&◌, List, [], ◌∷◌, ◌++◌, codes, flat_map}
+use Rattle.std.specs.Prelude.{ℕ, Bool, true, false, List, [], ◌∷◌, ◌++◌, codes, flat_map}
 use Rattle.std.specs.List.{join_by}
 
 -- Parts with a comma and a space between. Where they are not the first of their list, a comma and a

@@ -1,4 +1,4 @@
-use Rattle.std.proofs.Common.{◌≡◌, ◌+◌, ◌++◌, map, take, drop, count_by}
+use Rattle.std.proofs.Common.{◌≡◌, ◌++◌, map, take, drop, count_by}
 use Rattle.std.specs.List.{range_with_len}
 use Rattle.mt_codec.specs.declared.field.FieldKind.TheVariants.{Int, Text}
 use Rattle.mt_fold.specs.Extended.{kinds_of, place_taken, places_from}

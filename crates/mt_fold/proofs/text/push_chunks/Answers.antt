@@ -1,7 +1,7 @@
-use Rattle.std.proofs.Common.{◌≡◌, ◌++◌, ◌+◌, ◌≤◌, ◌∷◌, [], take, length, get_or, refl, sym, ap, ◌∙◌, arith}
+use Rattle.std.proofs.Common.{◌++◌, ◌≤◌, ◌∷◌, [], take, length, get_or, refl, sym, ap, ◌∙◌, arith}
 use Rattle.mt_fold.specs.declared.shape.Shape.{Shape}
 use Rattle.mt_fold.specs.declared.shape.Shape.TheVariants.{C1}
-use Rattle.mt_fold.specs.Parts.{first_behind, parts_text, separator}
+use Rattle.mt_fold.specs.Parts.{first_behind, parts_text}
 use Rattle.mt_fold.specs.Texts.{chunk_names, chunk_parts, group_text, shape_name}
 use Rattle.mt_fold.proofs.Printed.{behind_more, chunk_parts_all, chunk_parts_more, part_more}
 use Rattle.mt_fold.proofs.text.push_chunks.Goals as goal

@@ -1,4 +1,4 @@
-use Rattle.std.proofs.Common.{◌≡◌, ◌++◌, ◌+◌, true, sym, ap, ◌∙◌}
+use Rattle.std.proofs.Common.{◌++◌, true, sym, ap, ◌∙◌}
 use Rattle.mt_fold.specs.declared.fold.Place.TheVariants.{Field}
 use Rattle.mt_fold.specs.Parts.{first_behind, parts_text}
 use Rattle.mt_fold.specs.Texts.{names_at}

@@ -1,8 +1,7 @@
 -- The next pair of a place and a column is the next of those that are looked at.
-use Rattle.std.proofs.Common.{◌≡◌, ◌++◌, ◌+◌, ◌≤◌, ◌∷◌, [], length, refl, sym, ap, ◌∙◌, arith}
+use Rattle.std.proofs.Common.{◌≡◌, ◌++◌, ◌∷◌, [], length, refl, sym, ap, ◌∙◌, arith}
 use Rattle.std.proofs.lemmas.List.{length_push}
 use Rattle.std.proofs.lemmas.Slice.Zip.{length-zip, zip_end, zip_turn}
-use Rattle.std.specs.List.{zip}
 use Rattle.mt_fold.specs.Parts.{first_behind, parts_text, separator}
 use Rattle.mt_fold.proofs.Printed.{behind_more, names_all, names_among, names_with, names_without, part_more}
 use Rattle.mt_fold.proofs.text.push_names.Goals as goal
