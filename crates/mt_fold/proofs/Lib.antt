@@ -1,5 +1,9 @@
 mod Examples
+pub mod Extensions
+pub mod Members
+mod Printed
 mod Sorts
+pub mod Taken
 mod Uses
 pub mod Ascending
 pub mod Cheapest

@@ -2,6 +2,8 @@ pub mod Clauses
 pub mod Covers
 pub mod Extended
 pub mod Folds
+pub mod Free
+pub mod Parts
 pub mod Placements
 pub mod Shapes
 pub mod Texts

@@ -24,3 +24,5 @@ pub use validity::{valid, valid_placement};
 
 #[cfg(test)]
 mod tests;
+#[cfg(test)]
+mod tests_extend;
