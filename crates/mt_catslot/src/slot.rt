@@ -103,6 +103,126 @@ impl CatSlot {
     pub fn key(&self) -> CatKey
         ensures { result ≡ key_of self.now }
     {
-        todo
+        match self {
+            CatSlot::Relation { class, number, .. } => CatKey::Relation {
+                class: *class,
+                number: *number,
+            },
+            CatSlot::Column {
+                class,
+                number,
+                position,
+                ..
+            } => CatKey::Column {
+                class: *class,
+                number: *number,
+                position: *position,
+            },
+            CatSlot::Tenant { tenant, .. } => CatKey::Tenant { tenant: *tenant },
+            CatSlot::Placement { tenant, base, .. } => CatKey::Placement {
+                tenant: *tenant,
+                base: *base,
+            },
+            CatSlot::Extended {
+                tenant,
+                base,
+                position,
+                ..
+            } => CatKey::Extended {
+                tenant: *tenant,
+                base: *base,
+                position: *position,
+            },
+            CatSlot::Field {
+                tenant,
+                base,
+                generation,
+                column,
+                ..
+            } => CatKey::Field {
+                tenant: *tenant,
+                base: *base,
+                generation: *generation,
+                column: *column,
+            },
+        }
+    }
+}
+
+impl Duplicate for CatSlot {
+    fn copy(&self, _alloc: Global) -> Result<CatSlot, AllocError> {
+        Ok(match self {
+            CatSlot::Relation {
+                class,
+                number,
+                base,
+                name,
+            } => CatSlot::Relation {
+                class: *class,
+                number: *number,
+                base: *base,
+                name: name.copy()?,
+            },
+            CatSlot::Column {
+                class,
+                number,
+                position,
+                kind,
+                not_null,
+                key,
+                name,
+            } => CatSlot::Column {
+                class: *class,
+                number: *number,
+                position: *position,
+                kind: *kind,
+                not_null: *not_null,
+                key: *key,
+                name: name.copy()?,
+            },
+            CatSlot::Tenant { tenant, quota } => CatSlot::Tenant {
+                tenant: *tenant,
+                quota: *quota,
+            },
+            CatSlot::Placement {
+                tenant,
+                base,
+                made,
+                motion,
+            } => CatSlot::Placement {
+                tenant: *tenant,
+                base: *base,
+                made: *made,
+                motion: *motion,
+            },
+            CatSlot::Extended {
+                tenant,
+                base,
+                position,
+                extension,
+            } => CatSlot::Extended {
+                tenant: *tenant,
+                base: *base,
+                position: *position,
+                extension: *extension,
+            },
+            CatSlot::Field {
+                tenant,
+                base,
+                generation,
+                column,
+                shape,
+                chunk,
+                field,
+            } => CatSlot::Field {
+                tenant: *tenant,
+                base: *base,
+                generation: *generation,
+                column: *column,
+                shape: *shape,
+                chunk: *chunk,
+                field: *field,
+            },
+        })
     }
 }
