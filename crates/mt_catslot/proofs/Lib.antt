@@ -1,4 +1,5 @@
 pub mod Numbers
+pub mod Reading
 pub mod Said
 pub mod Whole
 pub mod Written

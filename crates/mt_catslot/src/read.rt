@@ -29,7 +29,8 @@ pub fn read_body(alloc: Global, table: u32, body: &[u8]) -> Result<Option<CatSlo
         10 => Ok(Some(read_tenant(body))),
         11 => Ok(read_placement(body)),
         12 => Ok(Some(read_extended(body))),
-        _ => Ok(read_field(body)),
+        13 => Ok(read_field(body)),
+        _ => unreachable!(),
     }
 }
 

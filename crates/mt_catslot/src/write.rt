@@ -1,11 +1,13 @@
 ghost use Rattle.std.specs.Prelude.{◌≡◌, ◌++◌, ◌∷◌, [], ◌≤◌, length, IfOk};
 ghost use Rattle.byteorder.specs.Endian.{little_bytes};
 ghost use Rattle.mt_rowfile.specs.Layouts.{body_width};
+ghost use Rattle.mt_fold.specs.Shapes.{shape_table};
 ghost use Rattle.mt_catslot.specs.Bytes.{body_of, class_byte, flag_byte, kind_bytes, motion_bytes, name_bytes};
 ghost use Rattle.mt_catslot.specs.Slots.{IsSayable, table_of};
 
 use crate::{CatSlot, Class, Motion};
 use byteorder::{ByteOrder, LittleEndian};
+use mt_fold::Shape;
 use mt_list::List;
 use mt_rowfile::CatBody;
 use mt_tree::Kind;
@@ -91,12 +93,7 @@ fn fill(slot: &CatSlot, out: &mut [u8])
         } => {
             let (table, rest) = out.split_at_mut(8);
             write_pair(*tenant, *base, table);
-            let (of, lies) = rest.split_at_mut(5);
-            of[0] = *generation;
-            LittleEndian::write_u32(&mut of[1..], *column);
-            lies[0] = shape.table() as u8;
-            lies[1] = *chunk;
-            lies[2] = *field;
+            write_field_place(*generation, *column, *shape, *chunk, *field, rest);
         }
     }
 }
@@ -131,14 +128,12 @@ fn write_column_rules(kind: Kind, not_null: bool, key: bool, out: &mut [u8])
     requires { length out.old ≡ 4 }
     ensures { out.new ≡ kind_bytes kind ++ flag_byte not_null ∷ flag_byte key ∷ [] }
 {
-    let (code, size) = match kind {
-        Kind::Integer => (1, 0),
-        Kind::Varchar(size) => (2, size),
-    };
-    out[0] = code;
-    out[1] = size;
-    out[2] = u8::from(not_null);
-    out[3] = u8::from(key);
+    let (sort, flags) = out.split_at_mut(2);
+    match kind {
+        Kind::Integer => sort.copy_from_slice(&[1, 0]),
+        Kind::Varchar(size) => sort.copy_from_slice(&[2, size]),
+    }
+    flags.copy_from_slice(&[u8::from(not_null), u8::from(key)]);
 }
 
 /// Writes how a tenant's table lies.
@@ -171,6 +166,25 @@ fn write_motion(moving: u8, generation: u8, frontier: u64, upto: u64, out: &mut 
     let (start, end) = rest.split_at_mut(8);
     LittleEndian::write_u64(start, frontier);
     LittleEndian::write_u64(end, upto);
+}
+
+/// Writes of which fold and column a field is, and where it lies.
+fn write_field_place(
+    generation: u8,
+    column: u32,
+    shape: Shape,
+    chunk: u8,
+    field: u8,
+    out: &mut [u8],
+)
+    requires { length out.old ≡ 8 }
+    ensures { out.new ≡ generation ∷ (little_bytes 4 column ++ shape_table shape ∷ chunk ∷ field ∷ []) }
+{
+    let (folded, rest) = out.split_at_mut(1);
+    folded[0] = generation;
+    let (counted, lies) = rest.split_at_mut(4);
+    LittleEndian::write_u32(counted, column);
+    lies.copy_from_slice(&[shape.table() as u8, chunk, field]);
 }
 
 /// Writes two numbers.

@@ -1,0 +1,9 @@
+use Rattle.std.proofs.Common.{◌≡◌, ◌≢◌, ℕ, IfNone, IfSome, subst, sym}
+use Rattle.mt_fold.specs.declared.shape.Shape.{Shape}
+use Rattle.mt_fold.specs.Shapes.{shape_table}
+use Rattle.mt_catslot.proofs.Reading.{shape_found}
+use Rattle.mt_catslot.proofs.read.read_shape.Goals as goal
+
+pub returns : goal.returns
+returns c =
+    shape_found c.with_table.result c.args.byte (rw c.from.ensures at c.with_table.ensures.some) (rw c.from.ensures at c.with_table.ensures.none)
