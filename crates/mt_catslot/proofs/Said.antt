@@ -13,16 +13,16 @@ use Rattle.mt_catslot.specs.Slots.{table_of}
 -- where a choice between two numbers gives something, one of its sides does
 pub chosen : {A T : Type 0} (table number : ℕ) (x y : Option A) (v : A) → (if table == number then x else y) ≡ Some v
     → (table ≡ number → x ≡ Some v → T) → (y ≡ Some v → T) → T
-chosen {A = A} {T = T} table number x y v e yes no = by (table == number) refl e
+chosen {A = A} {T = T} table number x y v e here there = by (table == number) refl e
   where
     by : (test : Bool) → (table == number) ≡ test → (if test then x else y) ≡ Some v → T
-    by true is given = yes (eqb-true table number is) given
-    by false is given = no given
+    by true is given = here (eqb-true table number is) given
+    by false is given = there given
 
 same_slot : (s t : CatSlot) → Some s ≡ Some t → s ≡ t
 same_slot s t e = cc
 
-none_given : {T : Type 0} (s : CatSlot) → None {A = CatSlot} ≡ Some s → T
+none_given : {T : Type 0} (s : CatSlot) → None ≡ Some s → T
 none_given s e = absurd (cc)
 
 -- what is to be shown of a slot, by the table in which bytes say it

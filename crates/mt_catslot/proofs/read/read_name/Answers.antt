@@ -3,6 +3,5 @@ use Rattle.mt_catslot.proofs.read.read_name.Goals as goal
 
 pub unreachable-requires : goal.unreachable-requires
 unreachable-requires c =
-    let utf8 = name_utf8 c.args.bytes.now c.from-end.result c.from-end.ensures c.requires.named in
-    let not = c.in-Err-NotUtf8.ensures.not_utf8 in
-    ?
+    c.in-Err-NotUtf8.ensures.not_utf8.0 c.in-Err-NotUtf8.field-0-is
+    (name_utf8 c.args.bytes.now c.from-end.result c.from-end.ensures c.requires.named)
