@@ -39,10 +39,10 @@ pub by_table : (table : ℕ) (body : List ℕ) (slot : CatSlot) (T : Type 0) →
 by_table table body slot T said by =
     chosen table 8 _ _ slot said by.relation
     (λ at9. chosen table 9 _ _ slot at9 by.column
-        (λ at10. chosen table 10 _ _ slot at10 (λ t e. by.tenant t (same_slot _ _ e))
-            (λ at11. chosen table 11 _ _ slot at11 by.placement
-                (λ at12. chosen table 12 _ _ slot at12 (λ t e. by.extended t (same_slot _ _ e))
-                    (λ at13. chosen table 13 _ _ slot at13 by.field (none_given slot))))))
+    (λ at10. chosen table 10 _ _ slot at10 (λ t e. by.tenant t (same_slot _ _ e))
+    (λ at11. chosen table 11 _ _ slot at11 by.placement
+    (λ at12. chosen table 12 _ _ slot at12 (λ t e. by.extended t (same_slot _ _ e))
+    (λ at13. chosen table 13 _ _ slot at13 by.field (none_given slot))))))
 
 -- a table or an extension is said in table 8
 relation_at : (found : Option Class) (number base : ℕ) (name : List ℕ) (slot : CatSlot)

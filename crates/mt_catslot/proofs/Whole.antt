@@ -37,7 +37,7 @@ extended_whole : (body : List ℕ) → length body ≡ 16 → AreBytes body → 
 extended_whole body long all =
     pair_next body _ (omega arith) all
     (next 4 (drop 8 body) _ (omega (arith, length-drop 8 body)) (All-drop (λ byte. byte < 256) 8 body all)
-        (last 4 (drop 12 body) (omega (arith, length-drop 12 body)) (All-drop (λ byte. byte < 256) 12 body all) ∙ sym (drop-drop 4 8 body)))
+    (last 4 (drop 12 body) (omega (arith, length-drop 12 body)) (All-drop (λ byte. byte < 256) 12 body all) ∙ sym (drop-drop 4 8 body)))
 
 -- how a table lies, by its parts
 abbrev pub moves : ℕ → ℕ → ℕ → ℕ → List ℕ
@@ -66,8 +66,8 @@ motion_parts m g f u motion e = settled (m == 0) (f == 0) (u == 0) refl refl ref
   where
     moving : (if m == 1 then Some (Moving g f u) else None) ≡ Some motion → motion_bytes motion ≡ moves m g f u
     moving given = chosen m 1 _ _ motion given
-      (λ one is. ap motion_bytes (sym (same_motion _ motion is)) ∙ same_moves 1 m g f f u u (sym one) refl refl)
-      (λ none. absurd (cc))
+        (λ one is. ap motion_bytes (sym (same_motion _ motion is)) ∙ same_moves 1 m g f f u u (sym one) refl refl)
+        (λ none. absurd (cc))
 
     settled : (a b c : Bool) → (m == 0) ≡ a → (f == 0) ≡ b → (u == 0) ≡ c
         → (if a && b && c then Some (Settled g) else (if m == 1 then Some (Moving g f u) else None)) ≡ Some motion
@@ -102,10 +102,10 @@ shape_number : (byte : ℕ) (shape : Shape) → shape_in byte ≡ Some shape →
 shape_number byte shape said =
     chosen byte 1 _ _ shape said (λ n e. of C1 n e)
     (λ at2. chosen byte 2 _ _ shape at2 (λ n e. of C2 n e)
-        (λ at3. chosen byte 3 _ _ shape at3 (λ n e. of C3 n e)
-            (λ at4. chosen byte 4 _ _ shape at4 (λ n e. of C4 n e)
-                (λ at5. chosen byte 5 _ _ shape at5 (λ n e. of C5 n e)
-                    (λ at6. chosen byte 6 _ _ shape at6 (λ n e. of C6 n e) (λ none. absurd (cc)))))))
+    (λ at3. chosen byte 3 _ _ shape at3 (λ n e. of C3 n e)
+    (λ at4. chosen byte 4 _ _ shape at4 (λ n e. of C4 n e)
+    (λ at5. chosen byte 5 _ _ shape at5 (λ n e. of C5 n e)
+    (λ at6. chosen byte 6 _ _ shape at6 (λ n e. of C6 n e) (λ none. absurd (cc)))))))
   where
     of : (known : Shape) → byte ≡ shape_table known → Some known ≡ Some shape → shape_table shape ≡ byte
     of known n e = let same : known ≡ shape = cc in ap shape_table (sym same) ∙ sym n

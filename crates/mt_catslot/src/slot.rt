@@ -19,8 +19,14 @@ pub enum Class {
 /// which has this generation, from the frontier up to `upto`.
 #[derive(Clone, Copy, Debug, PartialEq, Eq)]
 pub enum Motion {
-    Settled { generation: u8 },
-    Moving { generation: u8, frontier: u64, upto: u64 },
+    Settled {
+        generation: u8,
+    },
+    Moving {
+        generation: u8,
+        frontier: u64,
+        upto: u64,
+    },
 }
 
 /// What a slot of the catalogue says.
@@ -76,12 +82,33 @@ pub enum CatSlot {
 /// What a slot of the catalogue is found by. No catalogue has two slots with one key.
 #[derive(Clone, Copy, Debug, PartialEq, Eq, Hash)]
 pub enum CatKey {
-    Relation { class: Class, number: u32 },
-    Column { class: Class, number: u32, position: u32 },
-    Tenant { tenant: u32 },
-    Placement { tenant: u32, base: u32 },
-    Extended { tenant: u32, base: u32, position: u32 },
-    Field { tenant: u32, base: u32, generation: u8, column: u32 },
+    Relation {
+        class: Class,
+        number: u32,
+    },
+    Column {
+        class: Class,
+        number: u32,
+        position: u32,
+    },
+    Tenant {
+        tenant: u32,
+    },
+    Placement {
+        tenant: u32,
+        base: u32,
+    },
+    Extended {
+        tenant: u32,
+        base: u32,
+        position: u32,
+    },
+    Field {
+        tenant: u32,
+        base: u32,
+        generation: u8,
+        column: u32,
+    },
 }
 
 impl CatSlot {

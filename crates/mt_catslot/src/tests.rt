@@ -16,12 +16,7 @@ use std::process::Abort;
 use std::test::Fail;
 
 /// What a slot in use says, with its mark in front, in this table of the catalogue.
-fn said(
-    rt: &impl Abort,
-    alloc: Global,
-    table: u8,
-    slot: &[u8],
-) -> Result<Option<CatSlot>, Fail> {
+fn said(rt: &impl Abort, alloc: Global, table: u8, slot: &[u8]) -> Result<Option<CatSlot>, Fail> {
     assert!(rt; 8 <= table);
     assert!(rt; table <= 13);
     let layout = Layout {
@@ -273,7 +268,10 @@ fn says_nothing_with(
     let mut changed = Vec::from_slice(alloc, slot)?;
     assert!(rt; at < changed.len());
     changed[at] = byte;
-    assert!(rt; said(rt, alloc, table, &changed)?.is_none(), "{byte} at {at}");
+    assert!(rt;
+        said(rt, alloc, table, &changed)?.is_none(),
+        "{byte} at {at}"
+    );
     Ok(())
 }
 
