@@ -7,7 +7,7 @@ use Rattle.mt_catslot.specs.declared.slot.Class.{Class}
 use Rattle.mt_catslot.specs.declared.slot.Motion.{Motion}
 use Rattle.mt_catslot.specs.declared.slot.CatSlot.{CatSlot}
 use Rattle.mt_catslot.specs.declared.slot.CatSlot.TheVariants as slots
-use Rattle.mt_catslot.specs.Bytes.{class_in, column_in, column_with, extended_in, field_in, kind_in, motion_in, placement_in, relation_in, says, shape_in, tenant_in}
+use Rattle.mt_catslot.specs.Bytes.{column_in, column_with, extended_in, field_in, placement_in, relation_in, says, tenant_in}
 use Rattle.mt_catslot.specs.Slots.{table_of}
 
 -- where a choice between two numbers gives something, one of its sides does

@@ -1,8 +1,7 @@
 -- The slots of the catalogue by what they say: the table of each, and the key that it has.
-use Rattle.std.specs.Prelude.{◌≡◌, ℕ, ◌^◌, ◌<◌, ◌≤◌, List, length, All}
+use Rattle.std.specs.Prelude.{ℕ, ◌^◌, ◌<◌, ◌≤◌, List, length, All}
 use Rattle.mt_tree.specs.declared.schema.Kind.{Kind}
 use Rattle.mt_tree.specs.declared.schema.Kind.TheVariants.{Integer, Varchar}
-use Rattle.mt_catslot.specs.declared.slot.Class.{Class}
 use Rattle.mt_catslot.specs.declared.slot.Motion.{Motion}
 use Rattle.mt_catslot.specs.declared.slot.Motion.TheVariants.{Settled, Moving}
 use Rattle.mt_catslot.specs.declared.slot.CatSlot.{CatSlot}

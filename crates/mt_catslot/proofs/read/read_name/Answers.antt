@@ -1,5 +1,4 @@
 use Rattle.std.proofs.Common.{Err, ap}
-use Rattle.mt_value.specs.declared.text.Str.{Str}
 use Rattle.mt_value.specs.declared.text.StrFault.{StrFault}
 use Rattle.mt_catslot.proofs.Reading.{name_utf8}
 use Rattle.mt_catslot.proofs.read.read_name.Goals as goal

@@ -1,6 +1,3 @@
-use Rattle.std.proofs.Common.{◌≡◌, ◌≢◌, ℕ, IfNone, IfSome, subst, sym}
-use Rattle.mt_fold.specs.declared.shape.Shape.{Shape}
-use Rattle.mt_fold.specs.Shapes.{shape_table}
 use Rattle.mt_catslot.proofs.Reading.{shape_found}
 use Rattle.mt_catslot.proofs.read.read_shape.Goals as goal
 
