@@ -1,4 +1,4 @@
-ghost use Rattle.std.specs.Prelude.{◌≡◌, ◌≤◌, length, drop, slice_index, IfOk};
+ghost use Rattle.std.specs.Prelude.{◌≡◌, ◌≤◌, length, drop, IfOk};
 ghost use Rattle.mt_rowfile.specs.Layouts.{body_width};
 ghost use Rattle.mt_rowfile.specs.Slots.{IsBody, IsNameField};
 ghost use Rattle.mt_catslot.specs.Bytes.{class_in, column_in, extended_in, field_in, kind_in, motion_in, name_in, placement_in, relation_in, says, shape_in, tenant_in};
