@@ -8,10 +8,11 @@ use Rattle.mt_fold.specs.declared.shape.Shape.{Shape}
 use Rattle.mt_fold.specs.declared.shape.Shape.TheVariants.{C1, C2, C3, C4, C5, C6}
 use Rattle.mt_fold.specs.Shapes.{fields_of, price, same_sort, shape_table}
 
--- how many integers and how many texts some chunks have fields for
+-- how many integers some chunks have fields for
 abbrev pub numbers_in : List Shape → ℕ
 numbers_in shapes = sum_by (λ shape. count_by (same_sort Int) (fields_of shape)) shapes
 
+-- how many texts some chunks have fields for
 abbrev pub texts_in : List Shape → ℕ
 texts_in shapes = sum_by (λ shape. count_by (same_sort (Text 120)) (fields_of shape)) shapes
 
@@ -61,6 +62,7 @@ holds numbers texts shapes = nat_le numbers (numbers_in shapes) && nat_le texts 
 abbrev pub first_cheapest : List Shape → List (List Shape) → List Shape
 first_cheapest list lists = fold (λ best other. if nat_lt (price other) (price best) then other else best) list lists
 
+-- the same of any lists, of which there may be none
 abbrev pub cheapest_of : List (List Shape) → List Shape
 cheapest_of [] = []
 cheapest_of (list ∷ lists) = first_cheapest list lists
