@@ -1,7 +1,7 @@
 -- Worked examples of the definitions: a table with an integer id, which is a base column, and a text d
 -- and an integer a of an extension, in the fold CONV (id), C2 (d), C4 (a).
-use Rattle.std.proofs.Common.{◌≡◌, ℕ, zero, suc, ◌<◌, ◌≤◌, List, [], ◌∷◌, Some, None, codes, slice_get, true, false, refl, arith}
-use Rattle.mt_codec.specs.declared.field.FieldKind.TheVariants.{Int, Text}
+use Rattle.std.proofs.Common.{◌≡◌, zero, suc, List, [], ◌∷◌, codes, true, false, refl, arith}
+use Rattle.mt_codec.specs.declared.field.FieldKind.TheVariants.{Int}
 use Rattle.mt_tree.specs.declared.schema.Column.{Column}
 use Rattle.mt_tree.specs.declared.schema.Kind.TheVariants.{Integer, Varchar}
 use Rattle.mt_fold.specs.declared.fold.Fold.{Fold}
@@ -11,7 +11,7 @@ use Rattle.mt_fold.specs.declared.fold.Placement.TheVariants.{Settled, Moving}
 use Rattle.mt_fold.specs.declared.shape.Shape.TheVariants.{C1, C2, C3, C4, C5, C6}
 use Rattle.mt_fold.specs.Folds.{IsField, IsUsed, IsValidFold, place_in}
 use Rattle.mt_fold.specs.Placements.{IsValidPlacement, chunk_number, folded_at}
-use Rattle.mt_fold.specs.Shapes.{fields_of, price}
+use Rattle.mt_fold.specs.Shapes.{price}
 
 abbrev id : Column
 id = record { name = codes "id"; kind = Integer; not_null = true; key = true }

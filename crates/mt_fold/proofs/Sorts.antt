@@ -1,14 +1,12 @@
 -- Which fields of a chunk are integers, and which texts.
-use Rattle.std.proofs.Common.{◌≡◌, ◌≢◌, ℕ, zero, suc, ◌+◌, ◌<◌, ◌≤◌, List, [], ◌∷◌, ◌++◌, length, Option, Some, None, replicate, slice_get, count_by, Bool, true, false, not, nat_eq, nat_lt, Decides, get_or, refl, sym, ap, subst, ◌∙◌, arith}
+use Rattle.std.proofs.Common.{◌≡◌, ◌≢◌, ℕ, zero, suc, ◌+◌, ◌<◌, ◌≤◌, List, ◌++◌, length, Option, Some, None, replicate, slice_get, count_by, true, not, nat_eq, nat_lt, Decides, get_or, refl, sym, ap, subst, ◌∙◌, arith}
 use Rattle.std.proofs.lemmas.Bool.{ltb-true, lt-ltb, eq-eqb, false≢true}
 use Rattle.std.proofs.lemmas.Option.{slice_get_read}
 use Rattle.mt_codec.specs.declared.field.FieldKind.{FieldKind}
 use Rattle.mt_codec.specs.declared.field.FieldKind.TheVariants.{Int, Text}
-use Rattle.mt_fold.specs.declared.fold.Fold.{Fold}
 use Rattle.mt_fold.specs.declared.shape.Shape.{Shape}
 use Rattle.mt_fold.specs.declared.shape.Shape.TheVariants.{C1, C2, C3, C4, C5, C6}
 use Rattle.mt_fold.specs.Clauses.{IsNext, kind_at}
-use Rattle.mt_fold.specs.Folds.{IsField}
 use Rattle.mt_fold.specs.Shapes.{fields_of, same_sort}
 
 -- How many integers a chunk has.

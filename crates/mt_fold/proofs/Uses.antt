@@ -1,5 +1,5 @@
 -- Which fields are taken, and the clauses of a valid fold in the words of its tests.
-use Rattle.std.proofs.Common.{◌≡◌, ◌≢◌, ◌⊎◌, ℕ, zero, suc, ◌+◌, ◌-◌, ◌<◌, ◌≤◌, List, [], ◌∷◌, length, take, get_or, Option, Some, None, slice_get, option_and_then, refl, sym, ap, ◌∙◌, subst, subst₂, below_more, inl, inr, arith}
+use Rattle.std.proofs.Common.{◌≡◌, ℕ, zero, suc, ◌+◌, ◌-◌, ◌<◌, ◌≤◌, List, [], ◌∷◌, length, take, get_or, Option, Some, None, slice_get, option_and_then, refl, sym, ap, ◌∙◌, subst, subst₂, below_more, inl, inr, arith}
 use Rattle.std.proofs.lemmas.Option.{get_or_from_slice_get, slice_get-get_or}
 use Rattle.std.proofs.lemmas.Bool.{cases_order}
 use Rattle.mt_codec.specs.declared.field.FieldKind.{FieldKind}
@@ -8,7 +8,7 @@ use Rattle.mt_fold.specs.declared.fold.Fold.{Fold}
 use Rattle.mt_fold.specs.declared.fold.Place.{Place}
 use Rattle.mt_fold.specs.declared.fold.Place.TheVariants.{Conv, Field}
 use Rattle.mt_fold.specs.declared.shape.Shape.{Shape}
-use Rattle.mt_fold.specs.Clauses.{AreApart, AreChunks, AreFields, AreFirst, ArePlaced, Fit, IsTaken, kind_at}
+use Rattle.mt_fold.specs.Clauses.{AreApart, AreChunks, AreFields, AreFirst, ArePlaced, IsTaken, kind_at}
 use Rattle.mt_fold.specs.Folds.{IsField, IsUsed, IsValidFold}
 use Rattle.mt_fold.specs.Shapes.{chunk_kind, fields_of}
 use Rattle.mt_fold.proofs.Sorts.{between, stands_at}

@@ -1,5 +1,5 @@
 -- How columns are put into chunks, and a fold to which chunks are added for more columns.
-use Rattle.std.specs.Prelude.{◌≡◌, ℕ, ◌+◌, ◌<◌, ◌≤◌, List, [], ◌∷◌, ◌++◌, length, map, take, filter_map, count_by, zip, if◌then◌else◌, slice_get, slice_index_or, Option, Some, None}
+use Rattle.std.specs.Prelude.{◌≡◌, ℕ, ◌+◌, ◌<◌, ◌≤◌, List, [], ◌∷◌, ◌++◌, length, map, take, filter_map, count_by, zip, if◌then◌else◌, slice_get, slice_index_or, Some, None}
 use Rattle.std.specs.List.{range_with_len}
 use Rattle.mt_codec.specs.declared.field.FieldKind.{FieldKind}
 use Rattle.mt_codec.specs.declared.field.FieldKind.TheVariants.{Int}

@@ -1,12 +1,12 @@
 -- Folds: in which chunk and field each column of a table lies, or in its conventional row.
-use Rattle.std.specs.Prelude.{◌≡◌, ℕ, ◌<◌, ◌≤◌, IsTrue, List, length, slice_get, slice_index_or, Some}
+use Rattle.std.specs.Prelude.{◌≡◌, ℕ, ◌<◌, ◌≤◌, List, length, slice_get, slice_index_or, Some}
 use Rattle.mt_codec.specs.declared.field.FieldKind.{FieldKind}
 use Rattle.mt_tree.specs.declared.schema.Column.{Column}
 use Rattle.mt_fold.specs.declared.fold.Fold.{Fold}
 use Rattle.mt_fold.specs.declared.fold.Place.{Place}
 use Rattle.mt_fold.specs.declared.fold.Place.TheVariants.{Conv, Field}
 use Rattle.mt_fold.specs.declared.shape.Shape.{Shape}
-use Rattle.mt_fold.specs.Shapes.{chunk_kind, fields_of, same_sort}
+use Rattle.mt_fold.specs.Shapes.{chunk_kind, fields_of}
 
 -- the place of a column; one that the fold does not know lies in the conventional row
 abbrev pub place_in : Fold → ℕ → Place
