@@ -1,20 +1,13 @@
 -- A number is read as an atom and as a factor, and what is kept of it is kept of these.
-use Rattle.std.proofs.Common.{◌≡◌, ℕ, zero, suc, ◌<◌, ℤ, pos, false, Option, Some, None, is_some, List, [], ◌∷◌, refl}
-use Rattle.std.proofs.lemmas.List.Elements.{All-nil, All-cons, All-head}
-use Rattle.std.specs.Option.{option_map, SomeIff}
-use Rattle.mt_lexer.specs.Tokens.{Lexeme, Sign}
-use Rattle.mt_lexer.specs.declared.token.Symbol.TheVariants as symbol
-use Rattle.mt_tree.specs.declared.expression.Literal.{Literal}
-use Rattle.mt_tree.specs.declared.expression.Literal.TheVariants.{Int}
-use Rattle.mt_tree.specs.declared.expression.Atom.TheVariants as atom
+use Rattle.std.proofs.Common.{◌≡◌, ℕ, zero, suc, ℤ, pos, Option, Some, List, refl}
+use Rattle.std.specs.Option.{option_map}
+use Rattle.mt_lexer.specs.Tokens.{Lexeme}
 use Rattle.mt_tree.specs.declared.expression.Expr.TheVariants as expr
 use Rattle.mt_reader.specs.Descent.{after, number_of, literal_of}
-use Rattle.mt_reader.specs.Literals.{IsLiteralInside, limit_64}
-use Rattle.mt_reader.specs.Taken.{Keeps, Took}
-use Rattle.mt_reader.proofs.Fronts.{keeps_map}
+use Rattle.mt_reader.specs.Taken.{Took}
 use Rattle.mt_reader.proofs.Spelling.{number_is}
 use Rattle.mt_terms.specs.Descent.{literal_atom_of, atom_of, alone_of, factor_of, int_atom}
-use Rattle.mt_terms.specs.Inside.{IsAtomInside, IsExprInside, TookNumber}
+use Rattle.mt_terms.specs.Inside.{IsExprInside, TookNumber}
 use Rattle.mt_terms.proofs.Inside.{keeps_atom}
 
 -- a number is an atom by itself
