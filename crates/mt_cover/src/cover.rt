@@ -1,8 +1,9 @@
 ghost use Rattle.std.specs.Prelude.{◌≡◌, ◌≤◌, ◌+◌, IfOk};
 ghost use Rattle.mt_fold.specs.Covers.{cover_of};
 
+use crate::prices::Prices;
+use crate::wanted::Wanted;
 use mt_fold::Shapes;
-use mt_list::List;
 use std::alloc::{AllocError, Global};
 
 /// The shapes of the cheapest chunks that have fields for so many integers and texts, ascending; of
@@ -11,5 +12,10 @@ pub fn cover(alloc: Global, numbers: u32, texts: u32) -> Result<Shapes, AllocErr
     requires few { numbers + texts ≤ 32 }
     ensures { IfOk result (λ shapes. shapes ≡ cover_of numbers texts) }
 {
-    Ok(List::new(alloc))
+    let wanted = Wanted {
+        numbers: numbers as usize,
+        texts: texts as usize,
+    };
+    let prices = Prices::up_to(alloc, wanted)?;
+    prices.shapes_for(alloc, wanted)
 }

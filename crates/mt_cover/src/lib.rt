@@ -3,6 +3,8 @@
 #![tactic(auto)]
 
 mod cover;
+mod prices;
+mod wanted;
 
 pub use cover::cover;
 
