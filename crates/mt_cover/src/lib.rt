@@ -2,11 +2,11 @@
 //! shapes that holds so many columns at the least price.
 #![tactic(auto)]
 
-mod cover;
+mod covers;
 mod prices;
 mod wanted;
 
-pub use cover::cover;
+pub use covers::cover;
 
 #[cfg(test)]
 mod tests;
