@@ -1,12 +1,12 @@
 -- The least of the prices of six shapes, tried in order, is that of the shape with which the cover begins.
-use Rattle.std.proofs.Common.{◌≡◌, ℕ, zero, suc, ◌+◌, ◌-◌, ◌<◌, ◌≤◌, ◌⊎◌, inl, inr, get_or, refl, sym, ap, ◌∙◌, arith}
+use Rattle.std.proofs.Common.{◌≡◌, ℕ, zero, suc, ◌+◌, ◌-◌, ◌<◌, ◌≤◌, ◌⊎◌, inl, inr, get_or, refl, sym, ap, ◌∙◌, subst, arith}
 use Rattle.std.proofs.lemmas.Bool.{cases_lt, cases_eq}
 use Rattle.mt_fold.specs.declared.shape.Shape.{Shape}
 use Rattle.mt_fold.specs.declared.shape.Shape.TheVariants.{C1, C2, C3, C4, C5, C6}
 use Rattle.mt_fold.specs.Covers.{all_shapes}
 use Rattle.mt_fold.specs.Shapes.{price_of, shape_table}
-use Rattle.mt_cover.specs.Steps.{cost_of, numbers_of, texts_of}
-use Rattle.mt_cover.proofs.Starts.{Heads, cost_bound, no_dearer}
+use Rattle.mt_cover.specs.Steps.{Begins, cost_of, numbers_of, texts_of}
+use Rattle.mt_cover.proofs.Starts.{Heads, cost_bound, head_of, no_dearer}
 
 at_table : (shape : Shape) → get_or all_shapes (shape_table shape - 1) C1 ≡ shape
 at_table C1 = refl
@@ -19,7 +19,7 @@ at_table C6 = refl
 same_shape : (shape other : Shape) → shape_table shape ≡ shape_table other → shape ≡ other
 same_shape shape other same = sym (at_table shape) ∙ ap (λ table. get_or all_shapes (table - 1) C1) same ∙ at_table other
 
-pub table_below : (shape : Shape) → shape_table shape < 7
+table_below : (shape : Shape) → shape_table shape < 7
 table_below C1 = omega arith
 table_below C2 = omega arith
 table_below C3 = omega arith
@@ -104,3 +104,12 @@ table_at (suc (suc (suc zero))) other below = refl
 table_at (suc (suc (suc (suc zero)))) other below = refl
 table_at (suc (suc (suc (suc (suc zero))))) other below = refl
 table_at (suc (suc (suc (suc (suc (suc place)))))) other below = absurd (omega arith)
+
+-- behind the last shape
+pub best_is : (numbers texts passed price : ℕ) (shape : Shape) → 1 ≤ numbers + texts → 6 ≤ passed → IsBest numbers texts passed price shape → (price ≡ cost_of numbers texts) × Begins numbers texts shape
+best_is numbers texts passed price shape some all best =
+    let head = head_of numbers texts some in
+    elim (best head.0 head.1) [
+      | inl found ↦ (found.0, subst (Begins numbers texts) (sym found.1) head.1.start)
+      | inr later ↦ let below = table_below head.0 in absurd (omega arith)
+    ]

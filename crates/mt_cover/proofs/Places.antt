@@ -24,6 +24,13 @@ price_read width numbers texts prices read are within known is =
     ∙ are (numbers * width + texts) known
     ∙ ap₂ cost_of (div-mul-add numbers width texts within) (mod-mul-add numbers width texts within)
 
+-- what stands at the place of fewer than those up to which there are prices
+pub rest_read : (width numbers texts rest_numbers rest_texts : ℕ) (prices : List ℕ) (read : ℕ) → ArePrices width prices → texts < width → numbers * width + texts ≤ length prices
+    → rest_numbers ≤ numbers → rest_texts ≤ texts → rest_numbers + rest_texts < numbers + texts → read ≡ get_or prices (rest_numbers * width + rest_texts) read → read ≡ cost_of rest_numbers rest_texts
+rest_read width numbers texts rest_numbers rest_texts prices read are within known number text fewer is =
+    let before = earlier width numbers texts rest_numbers rest_texts within number text fewer in
+    price_read width rest_numbers rest_texts prices read are (omega arith) (omega arith) is
+
 pub price_below : (shape : Shape) → price_of shape < 614
 price_below C1 = omega arith
 price_below C2 = omega arith
