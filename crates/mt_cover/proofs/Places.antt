@@ -1,12 +1,13 @@
 -- The place of a price in the table.
-use Rattle.std.proofs.Common.{◌≡◌, ℕ, ◌+◌, ◌*◌, ◌/◌, ◌%◌, ◌<◌, ◌≤◌, inl, inr, List, length, get_or, sym, ap₂, ◌∙◌, arith}
+use Rattle.std.proofs.Common.{◌≡◌, ℕ, zero, suc, ◌+◌, ◌*◌, ◌/◌, ◌%◌, ◌<◌, ◌≤◌, inl, inr, List, [], ◌∷◌, ◌++◌, length, get_or, sym, ap, ap₂, ◌∙◌, arith}
 use Rattle.std.proofs.lemmas.Bool.{cases_lt}
-use Rattle.std.proofs.lemmas.List.{get_or_read}
-use Rattle.std.proofs.lemmas.Nat.{div-mul-add, mod-mul-add, mul-le, row_fits}
+use Rattle.std.proofs.lemmas.List.{get_or_append_left, get_or_push, get_or_read, length_push}
+use Rattle.std.proofs.lemmas.Nat.{div-add-mod', div-mul-add, mod-mul-add, mul-le, row_fits}
 use Rattle.mt_fold.specs.declared.shape.Shape.{Shape}
 use Rattle.mt_fold.specs.declared.shape.Shape.TheVariants.{C1, C2, C3, C4, C5, C6}
 use Rattle.mt_fold.specs.Shapes.{price_of}
 use Rattle.mt_cover.specs.Steps.{ArePrices, cost_of}
+use Rattle.mt_cover.proofs.Starts.{nothing_is_free}
 
 -- fewer columns have an earlier place
 pub earlier : (width numbers texts fewer_numbers fewer_texts : ℕ) → texts < width → fewer_numbers ≤ numbers → fewer_texts ≤ texts → fewer_numbers + fewer_texts < numbers + texts
@@ -38,3 +39,34 @@ price_below C3 = omega arith
 price_below C4 = omega arith
 price_below C5 = omega arith
 price_below C6 = omega arith
+
+-- a table with a row for each number of integers has a place for each number of texts in it
+pub place_within : (width numbers texts fewer_numbers fewer_texts long : ℕ) → width ≡ texts + 1 → long ≡ (numbers + 1) * width → fewer_numbers ≤ numbers → fewer_texts ≤ texts
+    → fewer_numbers * width + fewer_texts ≤ long
+place_within width numbers texts fewer_numbers fewer_texts long wide all number text = let row = row_fits fewer_numbers width (numbers + 1) width (omega arith) (omega arith) in omega arith
+
+-- the first price is that of nothing
+pub free_of_cost : (width : ℕ) → 0 < width → ArePrices width (0 ∷ [])
+free_of_cost width some zero below = sym (ap₂ cost_of (div-mul-add 0 width 0 some) (mod-mul-add 0 width 0 some) ∙ nothing_is_free)
+free_of_cost width some (suc place) below = absurd (omega arith)
+
+-- behind the first place there is some column
+pub some_at : (width place : ℕ) → 0 < width → 0 < place → 1 ≤ place / width + place % width
+some_at width place wide some = elim (cases_lt 0 (place / width)) [
+  | inl row ↦ omega arith
+  | inr none ↦
+      let zero_row : place / width ≡ 0 = omega arith in
+      let is = div-add-mod' place width in
+      let at = rw zero_row at is in
+      omega arith
+]
+
+-- one more price
+pub ArePrices-push : (width : ℕ) (prices : List ℕ) (cost : ℕ) → ArePrices width prices → cost ≡ cost_of (length prices / width) (length prices % width) → ArePrices width (prices ++ cost ∷ [])
+ArePrices-push width prices cost are is place below = elim (cases_lt place (length prices)) [
+  | inl before ↦ get_or_append_left prices (cost ∷ []) 0 place before ∙ are place before
+  | inr last ↦
+      let long = length_push prices cost in
+      let here : length prices ≡ place = omega arith in
+      get_or_push prices cost 0 place here ∙ is ∙ ap (λ at. cost_of (at / width) (at % width)) here
+]
