@@ -47,7 +47,10 @@ place_within width numbers texts fewer_numbers fewer_texts long wide all number 
 
 -- the first price is that of nothing
 pub free_of_cost : (width : ℕ) → 0 < width → ArePrices width (0 ∷ [])
-free_of_cost width some zero below = sym (ap₂ cost_of (div-mul-add 0 width 0 some) (mod-mul-add 0 width 0 some) ∙ nothing_is_free)
+free_of_cost width some zero below =
+    let row : 0 / width ≡ 0 = omega arith in
+    let column : 0 % width ≡ 0 = omega arith in
+    sym (ap₂ cost_of row column ∙ nothing_is_free)
 free_of_cost width some (suc place) below = absurd (omega arith)
 
 -- behind the first place there is some column

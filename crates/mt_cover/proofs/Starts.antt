@@ -1,7 +1,8 @@
 -- With which shape a cover begins: of those that begin a list of its price the earliest. What follows
 -- it is the cover of the columns that it leaves.
-use Rattle.std.proofs.Common.{◌≡◌, ℕ, ◌+◌, ◌-◌, ◌*◌, ◌<◌, ◌≤◌, false, inl, inr, List, [], ◌∷◌, map, replicate, sum_by, refl, sym, ap, ◌∙◌, subst, arith}
+use Rattle.std.proofs.Common.{◌≡◌, ℕ, ◌+◌, ◌-◌, ◌*◌, ◌<◌, ◌≤◌, inl, inr, List, [], ◌∷◌, ◌++◌, replicate, sum_by, refl, sym, ap, ap₂, ◌∙◌, subst, append_assoc, arith}
 use Rattle.std.proofs.lemmas.Bool.{cases_lt, le-ltb, ne_eqb}
+use Rattle.std.proofs.lemmas.List.{append-nil}
 use Rattle.std.proofs.lemmas.List.Folds.{sum_by-replicate}
 use Rattle.std.proofs.lemmas.List.Sums.{sum_by-cons}
 use Rattle.mt_fold.specs.declared.shape.Shape.{Shape}
@@ -203,3 +204,19 @@ head_of numbers texts some = by (shapes_for numbers texts) refl
     by : (shapes : List Shape) → shapes_for numbers texts ≡ shapes → (shape : Shape) × Heads numbers texts shape
     by [] is = let enough = subst (Holds numbers texts) is (cover_is numbers texts).holds in absurd (omega arith)
     by (shape ∷ shapes) is = (shape, heads numbers texts shape shapes is)
+
+-- shapes that go on with a cover, with its first shape behind them, go on with the cover of the rest
+pub goes_on_more : (numbers texts rest_numbers rest_texts : ℕ) (shape : Shape) (shapes more whole : List Shape) → Begins numbers texts shape → rest_numbers ≡ numbers - numbers_of shape → rest_texts ≡ texts - texts_of shape
+    → more ≡ shapes ++ shape ∷ [] → shapes ++ shapes_for numbers texts ≡ whole → more ++ shapes_for rest_numbers rest_texts ≡ whole
+goes_on_more numbers texts rest_numbers rest_texts shape shapes more whole begins number text pushed goes_on =
+    ap₂ (◌++◌) pushed (ap₂ shapes_for number text)
+    ∙ append_assoc shapes (shape ∷ []) (shapes_for (numbers - numbers_of shape) (texts - texts_of shape))
+    ∙ ap (λ list. shapes ++ list) (sym begins.begins)
+    ∙ goes_on
+
+-- nothing goes on with nothing
+pub goes_no_further : (numbers texts : ℕ) (shapes whole : List Shape) → numbers + texts ≡ 0 → shapes ++ shapes_for numbers texts ≡ whole → shapes ≡ whole
+goes_no_further numbers texts shapes whole none goes_on =
+    let number : numbers ≡ 0 = omega arith in
+    let text : texts ≡ 0 = omega arith in
+    sym (append-nil shapes) ∙ ap (λ list. shapes ++ list) (sym nothing_is_empty ∙ sym (ap₂ shapes_for number text)) ∙ goes_on
