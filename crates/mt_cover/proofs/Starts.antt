@@ -206,17 +206,17 @@ head_of numbers texts some = by (shapes_for numbers texts) refl
     by (shape ∷ shapes) is = (shape, heads numbers texts shape shapes is)
 
 -- shapes that go on with a cover, with its first shape behind them, go on with the cover of the rest
-pub goes_on_more : (numbers texts rest_numbers rest_texts : ℕ) (shape : Shape) (shapes more whole : List Shape) → Begins numbers texts shape → rest_numbers ≡ numbers - numbers_of shape → rest_texts ≡ texts - texts_of shape
-    → more ≡ shapes ++ shape ∷ [] → shapes ++ shapes_for numbers texts ≡ whole → more ++ shapes_for rest_numbers rest_texts ≡ whole
-goes_on_more numbers texts rest_numbers rest_texts shape shapes more whole begins number text pushed goes_on =
+pub goes_on_more : (numbers texts rest_numbers rest_texts : ℕ) (shape : Shape) (shapes more all : List Shape) → Begins numbers texts shape → rest_numbers ≡ numbers - numbers_of shape → rest_texts ≡ texts - texts_of shape
+    → more ≡ shapes ++ shape ∷ [] → shapes ++ shapes_for numbers texts ≡ all → more ++ shapes_for rest_numbers rest_texts ≡ all
+goes_on_more numbers texts rest_numbers rest_texts shape shapes more all begins number text pushed goes_on =
     ap₂ (◌++◌) pushed (ap₂ shapes_for number text)
     ∙ append_assoc shapes (shape ∷ []) (shapes_for (numbers - numbers_of shape) (texts - texts_of shape))
     ∙ ap (λ list. shapes ++ list) (sym begins.begins)
     ∙ goes_on
 
 -- nothing goes on with nothing
-pub goes_no_further : (numbers texts : ℕ) (shapes whole : List Shape) → numbers + texts ≡ 0 → shapes ++ shapes_for numbers texts ≡ whole → shapes ≡ whole
-goes_no_further numbers texts shapes whole none goes_on =
+pub goes_no_further : (numbers texts : ℕ) (shapes all : List Shape) → numbers + texts ≡ 0 → shapes ++ shapes_for numbers texts ≡ all → shapes ≡ all
+goes_no_further numbers texts shapes all none goes_on =
     let number : numbers ≡ 0 = omega arith in
     let text : texts ≡ 0 = omega arith in
     sym (append-nil shapes) ∙ ap (λ list. shapes ++ list) (sym nothing_is_empty ∙ sym (ap₂ shapes_for number text)) ∙ goes_on

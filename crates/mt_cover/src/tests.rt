@@ -48,9 +48,9 @@ fn covers_are_the_cheapest(rt: HostRuntime) -> Result<(), Fail> {
     for (numbers, texts, wanted, cost) in CASES {
         let shapes = cover(alloc, numbers, texts)?;
         assert_eq!(rt; shapes.as_slice(), wanted, "{numbers} and {texts}");
-        let mut price = 0;
+        let mut price: u64 = 0;
         for shape in wanted {
-            price += shape.price();
+            price = price.saturating_add(shape.price());
         }
         assert_eq!(rt; price, cost, "{numbers} and {texts}");
     }

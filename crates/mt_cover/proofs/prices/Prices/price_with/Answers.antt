@@ -1,5 +1,5 @@
 -- By the price at the place of what is left.
-use Rattle.std.proofs.Common.{◌≡◌, ◌+◌, ap₂, ◌∙◌, arith}
+use Rattle.std.proofs.Common.{◌+◌, ap₂, ◌∙◌, arith}
 use Rattle.mt_cover.specs.Steps.{cost_of}
 use Rattle.mt_cover.proofs.Places.{price_below, rest_read}
 use Rattle.mt_cover.proofs.Starts.{cost_bound}

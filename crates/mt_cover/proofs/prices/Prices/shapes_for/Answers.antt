@@ -42,7 +42,7 @@ loop-wanted-preserved c =
       fewer_numbers = omega arith;
       fewer_texts = omega arith;
       goes_on = goes_on_more wanted.numbers wanted.texts rest.numbers rest.texts c.start_of-start.result.shape c.loop-wanted.shapes c.push.new.self (shapes_for c.args.most.numbers c.args.most.texts) c.start_of-start.ensures.begins number text
-      c.in_ok-push.ensures.ok c.loop-wanted.invariant.goes_on;
+          c.in_ok-push.ensures.ok c.loop-wanted.invariant.goes_on;
     }
 
 pub returns : goal.returns

@@ -1,9 +1,8 @@
 -- By the invariant that the first of the cover is the best so far, or is yet to come.
-use Rattle.std.proofs.Common.{◌≡◌, ◌+◌, ◌≤◌, ◌<◌, ◌⊎◌, inl, inr, get_or, sym, subst, ◌∙◌, arith}
+use Rattle.std.proofs.Common.{◌≡◌, ◌+◌, get_or, sym, subst}
 use Rattle.mt_fold.specs.declared.shape.Shape.TheVariants.{C1}
 use Rattle.mt_fold.specs.Shapes.{shape_table}
 use Rattle.mt_cover.specs.declared.prices.Start.{Start}
-use Rattle.mt_cover.specs.Steps.{Begins, cost_of}
 use Rattle.mt_cover.proofs.Chosen.{IsBest, IsPriceWith, best_is, best_kept, best_none, best_taken, table_at}
 use Rattle.mt_cover.proofs.prices.Prices.start_of.Goals as goal
 use Rattle.mt_cover.proofs.prices.Prices.start_of.Goals.{then-price-best, else-price-best}

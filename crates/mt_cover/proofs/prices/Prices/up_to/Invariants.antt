@@ -6,5 +6,5 @@ abbrev pub invariant-loop-place : goal.invariant-loop-place
 invariant-loop-place l = record {
   wide : l.table.width ≡ l.width;
   long : length l.table.prices.items ≡ l.place;
-  priced : ArePrices l.table.width l.table.prices.items
+  priced : ArePrices l.table.width l.table.prices.items;
 }
