@@ -3,6 +3,7 @@ ghost use Rattle.mt_fold.specs.Covers.{all_shapes};
 ghost use Rattle.mt_cover.specs.Steps.{numbers_of, texts_of};
 
 use mt_fold::Shape;
+use mt_fold::Shape::{C1, C2, C3, C4, C5, C6};
 
 /// So many integers and texts that have no fields yet.
 #[derive(Clone, Copy)]
@@ -45,14 +46,7 @@ impl Wanted {
 pub(crate) fn shapes() -> [Shape; 6]
     ensures { result ≡ all_shapes }
 {
-    [
-        Shape::C1,
-        Shape::C2,
-        Shape::C3,
-        Shape::C4,
-        Shape::C5,
-        Shape::C6,
-    ]
+    [C1, C2, C3, C4, C5, C6]
 }
 
 /// How many integers a chunk of this shape has fields for.
@@ -60,10 +54,10 @@ fn numbers_of(shape: Shape) -> usize
     ensures { result ≡ numbers_of shape }
 {
     match shape {
-        Shape::C1 | Shape::C3 => 1,
-        Shape::C2 => 0,
-        Shape::C4 | Shape::C6 => 4,
-        Shape::C5 => 2,
+        C1 | C3 => 1,
+        C2 => 0,
+        C4 | C6 => 4,
+        C5 => 2,
     }
 }
 
@@ -72,9 +66,9 @@ fn texts_of(shape: Shape) -> usize
     ensures { result ≡ texts_of shape }
 {
     match shape {
-        Shape::C1 | Shape::C4 => 0,
-        Shape::C2 | Shape::C3 => 1,
-        Shape::C5 => 2,
-        Shape::C6 => 4,
+        C1 | C4 => 0,
+        C2 | C3 => 1,
+        C5 => 2,
+        C6 => 4,
     }
 }
