@@ -5,6 +5,7 @@ use Rattle.mt_fold.specs.declared.shape.Shape.{Shape}
 use Rattle.mt_fold.specs.declared.shape.Shape.TheVariants.{C1, C2, C3, C4, C5, C6}
 use Rattle.mt_fold.specs.Covers.{all_shapes}
 use Rattle.mt_fold.specs.Shapes.{price_of, shape_table}
+use Rattle.mt_fold.proofs.Ascending.{table_positive}
 use Rattle.mt_cover.specs.Steps.{Begins, cost_of, numbers_of, texts_of}
 use Rattle.mt_cover.proofs.Starts.{Heads, cost_bound, head_of, no_dearer}
 
@@ -85,15 +86,7 @@ module _ (numbers texts passed cost : ℕ) (next : Shape) (few : numbers + texts
 
 -- before any shape was tried
 pub best_none : (numbers texts : ℕ) → numbers + texts ≤ 32 → IsBest numbers texts 0 18446744073709551615 C1
-best_none numbers texts few head h = let most = cost_bound numbers texts in inr (omega arith, table_positive head)
-  where
-    table_positive : (shape : Shape) → 0 < shape_table shape
-    table_positive C1 = omega arith
-    table_positive C2 = omega arith
-    table_positive C3 = omega arith
-    table_positive C4 = omega arith
-    table_positive C5 = omega arith
-    table_positive C6 = omega arith
+best_none numbers texts few head h = let most = cost_bound numbers texts in let positive = table_positive head in inr (omega arith, omega arith)
 
 -- the shape at a place is that of the next table
 pub table_at : (place : ℕ) (other : Shape) → place < 6 → shape_table (get_or all_shapes place other) ≡ place + 1

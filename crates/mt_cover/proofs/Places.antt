@@ -2,7 +2,7 @@
 use Rattle.std.proofs.Common.{◌≡◌, ℕ, zero, suc, ◌+◌, ◌*◌, ◌/◌, ◌%◌, ◌<◌, ◌≤◌, inl, inr, List, [], ◌∷◌, ◌++◌, length, get_or, sym, ap, ap₂, ◌∙◌, arith}
 use Rattle.std.proofs.lemmas.Bool.{cases_lt}
 use Rattle.std.proofs.lemmas.List.{get_or_append_left, get_or_push, get_or_read, length_push}
-use Rattle.std.proofs.lemmas.Nat.{div-add-mod', div-mul-add, mod-mul-add, mul-le, row_fits}
+use Rattle.std.proofs.lemmas.Nat.{div-mul-add, mod-mul-add, mul-le, row_fits}
 use Rattle.mt_fold.specs.declared.shape.Shape.{Shape}
 use Rattle.mt_fold.specs.declared.shape.Shape.TheVariants.{C1, C2, C3, C4, C5, C6}
 use Rattle.mt_fold.specs.Shapes.{price_of}
@@ -10,7 +10,7 @@ use Rattle.mt_cover.specs.Steps.{ArePrices, cost_of}
 use Rattle.mt_cover.proofs.Starts.{nothing_is_free}
 
 -- fewer columns have an earlier place
-pub earlier : (width numbers texts fewer_numbers fewer_texts : ℕ) → texts < width → fewer_numbers ≤ numbers → fewer_texts ≤ texts → fewer_numbers + fewer_texts < numbers + texts
+earlier : (width numbers texts fewer_numbers fewer_texts : ℕ) → texts < width → fewer_numbers ≤ numbers → fewer_texts ≤ texts → fewer_numbers + fewer_texts < numbers + texts
     → fewer_numbers * width + fewer_texts < numbers * width + texts
 earlier width numbers texts fewer_numbers fewer_texts within number text fewer = elim (cases_lt fewer_numbers numbers) [
   | inl less ↦ let row = row_fits fewer_numbers width numbers width less (omega arith) in omega arith
@@ -18,7 +18,7 @@ earlier width numbers texts fewer_numbers fewer_texts within number text fewer =
 ]
 
 -- what stands at the place of so many
-pub price_read : (width numbers texts : ℕ) (prices : List ℕ) (read : ℕ) → ArePrices width prices → texts < width → numbers * width + texts < length prices
+price_read : (width numbers texts : ℕ) (prices : List ℕ) (read : ℕ) → ArePrices width prices → texts < width → numbers * width + texts < length prices
     → read ≡ get_or prices (numbers * width + texts) read → read ≡ cost_of numbers texts
 price_read width numbers texts prices read are within known is =
     get_or_read prices (numbers * width + texts) read known is 0
@@ -52,17 +52,6 @@ free_of_cost width some zero below =
     let column : 0 % width ≡ 0 = omega arith in
     sym (ap₂ cost_of row column ∙ nothing_is_free)
 free_of_cost width some (suc place) below = absurd (omega arith)
-
--- behind the first place there is some column
-pub some_at : (width place : ℕ) → 0 < width → 0 < place → 1 ≤ place / width + place % width
-some_at width place wide some = elim (cases_lt 0 (place / width)) [
-  | inl row ↦ omega arith
-  | inr none ↦
-      let zero_row : place / width ≡ 0 = omega arith in
-      let is = div-add-mod' place width in
-      let at = rw zero_row at is in
-      omega arith
-]
 
 -- one more price
 pub ArePrices-push : (width : ℕ) (prices : List ℕ) (cost : ℕ) → ArePrices width prices → cost ≡ cost_of (length prices / width) (length prices % width) → ArePrices width (prices ++ cost ∷ [])

@@ -13,12 +13,6 @@ loop-wanted-init c = record {
   goes_on = ap (λ (list : List Shape). list ++ shapes_for c.args.most.numbers c.args.most.texts) c.new-shapes.ensures;
 }
 
-pub start_of-start-requires-clause-few : goal.start_of-start-requires-clause-few
-start_of-start-requires-clause-few c = let less = c.loop-wanted.invariant.fewer_numbers in let fewer = c.loop-wanted.invariant.fewer_texts in omega arith
-
-pub start_of-start-requires-clause-width : goal.start_of-start-requires-clause-width
-start_of-start-requires-clause-width c = let fewer = c.loop-wanted.invariant.fewer_texts in omega arith
-
 pub start_of-start-requires-clause-known : goal.start_of-start-requires-clause-known
 start_of-start-requires-clause-known c =
     place_within c.args.self.now.width c.args.most.numbers c.args.most.texts c.loop-wanted.wanted.numbers c.loop-wanted.wanted.texts (length c.args.self.now.prices.items) c.requires.width c.requires.rows

@@ -25,9 +25,6 @@ start_of-start-requires-clause-known c =
     let long = c.loop-place.invariant.long in
     subst (λ wide. place / width * wide + place % width ≤ length c.loop-place.table.prices.items) (sym c.loop-place.invariant.wide) (omega arith)
 
-pub start_of-start-requires-clause-prices : goal.start_of-start-requires-clause-prices
-start_of-start-requires-clause-prices c = c.loop-place.invariant.priced
-
 pub loop-place-preserved : goal.loop-place-preserved
 loop-place-preserved c =
     let table = c.loop-place.table in
@@ -42,14 +39,8 @@ loop-place-preserved c =
       priced = subst (ArePrices table.width) (sym items) (ArePrices-push table.width table.prices.items price c.loop-place.invariant.priced cost);
     }
 
-pub returns-clause-width : goal.returns-clause-width
-returns-clause-width c = c.loop-place.invariant.wide
-
 pub returns-clause-rows : goal.returns-clause-rows
 returns-clause-rows c =
     let some = mul-le 1 1 (c.args.most.numbers + 1) (c.args.most.texts + 1) (omega arith) (omega arith) in
     let long = c.loop-place.invariant.long in
     subst (λ wide. length c.loop-place.table.prices.items ≡ (c.args.most.numbers + 1) * wide) (sym c.loop-place.invariant.wide) (omega arith)
-
-pub returns-clause-prices : goal.returns-clause-prices
-returns-clause-prices c = c.loop-place.invariant.priced
