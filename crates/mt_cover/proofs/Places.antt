@@ -10,7 +10,7 @@ use Rattle.mt_cover.specs.Steps.{ArePrices, cost_of}
 use Rattle.mt_cover.proofs.Starts.{nothing_is_free}
 
 -- fewer columns have an earlier place
-earlier : (width numbers texts fewer_numbers fewer_texts : ℕ) → texts < width → fewer_numbers ≤ numbers → fewer_texts ≤ texts → fewer_numbers + fewer_texts < numbers + texts
+pub earlier : (width numbers texts fewer_numbers fewer_texts : ℕ) → texts < width → fewer_numbers ≤ numbers → fewer_texts ≤ texts → fewer_numbers + fewer_texts < numbers + texts
     → fewer_numbers * width + fewer_texts < numbers * width + texts
 earlier width numbers texts fewer_numbers fewer_texts within number text fewer = elim (cases_lt fewer_numbers numbers) [
   | inl less ↦ let row = row_fits fewer_numbers width numbers width less (omega arith) in omega arith
@@ -18,19 +18,12 @@ earlier width numbers texts fewer_numbers fewer_texts within number text fewer =
 ]
 
 -- what stands at the place of so many
-price_read : (width numbers texts : ℕ) (prices : List ℕ) (read : ℕ) → ArePrices width prices → texts < width → numbers * width + texts < length prices
+pub price_read : (width numbers texts : ℕ) (prices : List ℕ) (read : ℕ) → ArePrices width prices → texts < width → numbers * width + texts < length prices
     → read ≡ get_or prices (numbers * width + texts) read → read ≡ cost_of numbers texts
 price_read width numbers texts prices read are within known is =
     get_or_read prices (numbers * width + texts) read known is 0
     ∙ are (numbers * width + texts) known
     ∙ ap₂ cost_of (div-mul-add numbers width texts within) (mod-mul-add numbers width texts within)
-
--- what stands at the place of fewer than those up to which there are prices
-pub rest_read : (width numbers texts rest_numbers rest_texts : ℕ) (prices : List ℕ) (read : ℕ) → ArePrices width prices → texts < width → numbers * width + texts ≤ length prices
-    → rest_numbers ≤ numbers → rest_texts ≤ texts → rest_numbers + rest_texts < numbers + texts → read ≡ get_or prices (rest_numbers * width + rest_texts) read → read ≡ cost_of rest_numbers rest_texts
-rest_read width numbers texts rest_numbers rest_texts prices read are within known number text fewer is =
-    let before = earlier width numbers texts rest_numbers rest_texts within number text fewer in
-    price_read width rest_numbers rest_texts prices read are (omega arith) (omega arith) is
 
 pub price_below : (shape : Shape) → price_of shape < 614
 price_below C1 = omega arith
@@ -39,11 +32,6 @@ price_below C3 = omega arith
 price_below C4 = omega arith
 price_below C5 = omega arith
 price_below C6 = omega arith
-
--- a table with a row for each number of integers has a place for each number of texts in it
-pub place_within : (width numbers texts fewer_numbers fewer_texts long : ℕ) → width ≡ texts + 1 → long ≡ (numbers + 1) * width → fewer_numbers ≤ numbers → fewer_texts ≤ texts
-    → fewer_numbers * width + fewer_texts ≤ long
-place_within width numbers texts fewer_numbers fewer_texts long wide all number text = let row = row_fits fewer_numbers width (numbers + 1) width (omega arith) (omega arith) in omega arith
 
 -- the first price is that of nothing
 pub free_of_cost : (width : ℕ) → 0 < width → ArePrices width (0 ∷ [])

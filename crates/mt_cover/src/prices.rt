@@ -100,9 +100,19 @@ impl Prices {
     {
         let rest = wanted.after(shape);
         if rest.is_fewer_than(wanted) {
-            shape.price() + self.prices[rest.numbers * self.width + rest.texts]
+            shape.price() + self.cost(rest)
         } else {
             u64::MAX
         }
+    }
+
+    /// What the cover of so many costs.
+    fn cost(&self, wanted: Wanted) -> u64
+        requires width { wanted.texts < self.now.width }
+        requires known { wanted.numbers * self.now.width + wanted.texts < length self.now.prices.items }
+        requires prices { ArePrices self.now.width self.now.prices.items }
+        ensures { result ≡ cost_of wanted.numbers wanted.texts }
+    {
+        self.prices[wanted.numbers * self.width + wanted.texts]
     }
 }

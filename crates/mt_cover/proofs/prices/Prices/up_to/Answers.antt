@@ -1,7 +1,6 @@
 -- By the places row by row.
-use Rattle.std.proofs.Common.{◌≡◌, ◌+◌, ◌*◌, ◌/◌, ◌%◌, ◌≤◌, [], ◌∷◌, ◌++◌, List, ℕ, length, refl, sym, subst, ap, ap₂, ◌∙◌, arith}
+use Rattle.std.proofs.Common.{◌≡◌, ◌+◌, ◌/◌, ◌%◌, [], ◌∷◌, ◌++◌, List, ℕ, length, refl, sym, subst, ap, ap₂, ◌∙◌, arith}
 use Rattle.std.proofs.lemmas.List.{length_push}
-use Rattle.std.proofs.lemmas.Nat.{div-add-mod', mod_below, mul-le}
 use Rattle.mt_cover.specs.Steps.{ArePrices, cost_of}
 use Rattle.mt_cover.proofs.Places.{ArePrices-push, free_of_cost}
 use Rattle.mt_cover.proofs.prices.Prices.up_to.Goals as goal
@@ -10,20 +9,6 @@ pub loop-place-init : goal.loop-place-init
 loop-place-init c =
     let items : c.push.new.self.items ≡ 0 ∷ [] = c.in_ok-push.ensures.items ∙ ap (λ (list : List ℕ). list ++ 0 ∷ []) c.in_ok-prices.ensures.items in
     record { wide = refl; long = ap length items; priced = subst (ArePrices (c.args.most.texts + 1)) (sym items) (free_of_cost (c.args.most.texts + 1) (omega arith)) }
-
-pub start_of-start-requires-clause-width : goal.start_of-start-requires-clause-width
-start_of-start-requires-clause-width c =
-    let below = mod_below c.loop-place.place (c.args.most.texts + 1) (omega arith) in
-    let wide = c.loop-place.invariant.wide in
-    omega arith
-
-pub start_of-start-requires-clause-known : goal.start_of-start-requires-clause-known
-start_of-start-requires-clause-known c =
-    let place = c.loop-place.place in
-    let width = c.args.most.texts + 1 in
-    let is = div-add-mod' place width in
-    let long = c.loop-place.invariant.long in
-    subst (λ wide. place / width * wide + place % width ≤ length c.loop-place.table.prices.items) (sym c.loop-place.invariant.wide) (omega arith)
 
 pub loop-place-preserved : goal.loop-place-preserved
 loop-place-preserved c =
@@ -38,9 +23,3 @@ loop-place-preserved c =
       long = ap length items ∙ length_push table.prices.items price ∙ ap (λ at. at + 1) long;
       priced = subst (ArePrices table.width) (sym items) (ArePrices-push table.width table.prices.items price c.loop-place.invariant.priced cost);
     }
-
-pub returns-clause-rows : goal.returns-clause-rows
-returns-clause-rows c =
-    let some = mul-le 1 1 (c.args.most.numbers + 1) (c.args.most.texts + 1) (omega arith) (omega arith) in
-    let long = c.loop-place.invariant.long in
-    subst (λ wide. length c.loop-place.table.prices.items ≡ (c.args.most.numbers + 1) * wide) (sym c.loop-place.invariant.wide) (omega arith)
