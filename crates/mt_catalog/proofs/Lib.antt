@@ -1,0 +1,14 @@
+pub mod ByKey
+pub mod Catalogues
+pub mod Chunks
+pub mod Cut
+pub mod Extensions
+pub mod Generations
+pub mod Keys
+pub mod Limits
+pub mod Made
+pub mod OneCatalogue
+pub mod OneFold
+pub mod OneRelation
+pub mod Runs
+pub mod Tested
