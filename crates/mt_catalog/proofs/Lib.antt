@@ -1,3 +1,4 @@
+pub mod Apart
 pub mod ByKey
 pub mod Catalogues
 pub mod Chunks

@@ -1,3 +1,4 @@
+pub mod Clauses
 pub mod Coded
 pub mod Found
 pub mod Keyed

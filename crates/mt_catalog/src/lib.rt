@@ -8,6 +8,7 @@ mod catalog;
 mod folds;
 mod laws;
 mod lookups;
+mod members;
 mod owned;
 mod reading;
 mod relations;

@@ -1,3 +1,14 @@
+ghost use Rattle.std.specs.Prelude.{◌≡◌, ℕ, ◌++◌, All, flat_map, length, slice_get, Some, IfOk, OnOk};
+ghost use Rattle.std.specs.Bool.{Decides};
+ghost use Rattle.std.specs.FinMap as finite;
+ghost use Rattle.indexmap.specs.IndexMap.{values};
+ghost use Rattle.mt_catalog.specs.declared.state.TenantEntry.{TenantEntry as Entry};
+ghost use Rattle.mt_catalog.specs.declared.state.TenantTable.{TenantTable as Kept};
+ghost use Rattle.mt_catalog.specs.Clauses.{AreBases, AreExtensions, AreFewApart, AreFewTenants, AreMade, AreWithin, Extends, KeepsMostRules, QuotasFit};
+ghost use Rattle.mt_catalog.specs.Rules.{IsCatalogue, IsTenant, IsTenantTable, MovesMade};
+ghost use Rattle.mt_catalog.specs.State as state;
+
+use crate::members::{base_columns, extension_columns, member};
 use crate::rules::{
     all_bases, all_extensions, bases_are_apart, extensions_are_apart, own_columns_are_apart,
 };
@@ -12,7 +23,9 @@ use std::alloc::{AllocError, Global};
 const QUOTAS: u32 = 1_048_576;
 
 /// An equal column.
-fn copy_column(column: &Column) -> Result<Column, AllocError> {
+fn copy_column(column: &Column) -> Result<Column, AllocError>
+    ensures { IfOk result (λ copied. copied ≡ column.now) }
+{
     Ok(Column {
         name: column.name.copy()?,
         kind: column.kind,
@@ -22,27 +35,31 @@ fn copy_column(column: &Column) -> Result<Column, AllocError> {
 }
 
 /// Adds equal columns at the end.
-fn add_columns(columns: &mut Columns, added: &[Column]) -> Result<(), AllocError> {
-    for column in added {
-        columns.push(copy_column(column)?)?;
+fn add_columns(columns: &mut Columns, added: &[Column]) -> Result<(), AllocError>
+    ensures { OnOk result (columns.new ≡ columns.old ++ added.now) }
+{
+    let mut rest = added;
+    while let Some((first, others)) = rest.split_first() {
+        columns.push(copy_column(first)?)?;
+        rest = others;
     }
     Ok(())
 }
 
-/// The columns of an extension; none where it is not there.
-fn extension_columns(extensions: &[Extension], number: u32) -> &[Column] {
-    match extensions.get(number as usize) {
-        None => &[],
-        Some(extension) => extension.columns.as_slice(),
+/// Adds the columns of these extensions at the end.
+fn add_extensions(
+    columns: &mut Columns,
+    extensions: &[Extension],
+    numbers: &[u32],
+) -> Result<(), AllocError>
+    ensures { OnOk result (columns.new ≡ columns.old ++ flat_map (λ number. state.extension_columns (slice_get extensions.now number)) numbers.now) }
+{
+    let mut rest = numbers;
+    while let Some((first, others)) = rest.split_first() {
+        add_columns(columns, extension_columns(extensions, *first as usize))?;
+        rest = others;
     }
-}
-
-/// The columns of a base table; none where it is not there.
-fn base_columns(bases: &[Table], number: usize) -> &[Column] {
-    match bases.get(number) {
-        None => &[],
-        Some(base) => base.columns.as_slice(),
-    }
+    Ok(())
 }
 
 /// The columns of a tenant's table of a base table, with these extensions.
@@ -51,42 +68,77 @@ fn extended_columns(
     catalog: &Catalog,
     base: usize,
     numbers: &[u32],
-) -> Result<Columns, AllocError> {
+) -> Result<Columns, AllocError>
+    ensures { IfOk result (λ columns. columns ≡ state.extended_columns catalog.now base numbers.now) }
+{
     let mut columns = List::new(alloc);
     add_columns(&mut columns, base_columns(catalog.bases.as_slice(), base))?;
-    for number in numbers {
-        add_columns(
-            &mut columns,
-            extension_columns(catalog.extensions.as_slice(), *number),
-        )?;
-    }
+    add_extensions(&mut columns, catalog.extensions.as_slice(), numbers)?;
     Ok(columns)
 }
 
 /// Whether each of these extensions is there, and is one of the base table.
-fn all_extend(extensions: &[Extension], base: usize, numbers: &[u32]) -> bool {
-    for number in numbers {
-        if !extends(extensions, base, *number) {
+fn all_extend(extensions: &[Extension], base: usize, numbers: &[u32]) -> bool
+    ensures { Decides result (All (Extends extensions.now base) numbers.now) }
+{
+    let mut rest = numbers;
+    while let Some((first, others)) = rest.split_first() {
+        if !extends(extensions, base, *first) {
             return false;
         }
+        rest = others;
     }
     true
 }
 
 /// Whether an extension is there, and is one of the base table.
-fn extends(extensions: &[Extension], base: usize, number: u32) -> bool {
-    match extensions.get(number as usize) {
+fn extends(extensions: &[Extension], base: usize, number: u32) -> bool
+    ensures { Decides result (Extends extensions.now base number) }
+{
+    match member(extensions, number as usize) {
         None => false,
         Some(extension) => extension.base as usize == base,
     }
 }
 
 /// Whether the rows that move were made.
-fn moves_made(made: u64, placement: &Placement) -> bool {
+fn moves_made(made: u64, placement: &Placement) -> bool
+    ensures { Decides result (MovesMade made placement.now) }
+{
     match placement {
         Placement::Settled { .. } => true,
         Placement::Moving { upto, .. } => *upto <= made,
     }
+}
+
+/// Whether so many rows may have been made of a table, and those that move were.
+fn are_made(table: &TenantTable) -> bool
+    ensures { Decides result (AreMade table.now) }
+{
+    table.made <= 1 << 63 && moves_made(table.made, &table.placement)
+}
+
+/// Whether the columns of a tenant's table are few, and have names of their own.
+fn are_few_apart(columns: &[Column]) -> bool
+    ensures { Decides result (AreFewApart columns.now) }
+{
+    columns.len() <= 32 && own_columns_are_apart(columns)
+}
+
+/// Whether a tenant's table with these columns keeps the rules.
+fn keeps_rules(catalog: &Catalog, base: usize, table: &TenantTable, columns: &Columns) -> bool
+    requires { columns.now ≡ state.extended_columns catalog.now base table.now.extended }
+    ensures { Decides result (IsTenantTable catalog.now base table.now) }
+{
+    let base_len = base_columns(catalog.bases.as_slice(), base).len();
+    are_made(table)
+        && all_extend(
+            catalog.extensions.as_slice(),
+            base,
+            table.extended.as_slice(),
+        )
+        && are_few_apart(columns.as_slice())
+        && valid_placement(&table.placement, columns, base_len)
 }
 
 /// Whether a tenant's table keeps the rules.
@@ -95,18 +147,11 @@ fn is_tenant_table(
     catalog: &Catalog,
     base: usize,
     table: &TenantTable,
-) -> Result<bool, AllocError> {
-    let numbers = table.extended.as_slice();
-    let columns = extended_columns(alloc, catalog, base, numbers)?;
-    let base_len = base_columns(catalog.bases.as_slice(), base).len();
-    Ok(
-        table.made <= 1 << 63
-            && all_extend(catalog.extensions.as_slice(), base, numbers)
-            && columns.len() <= 32
-            && own_columns_are_apart(columns.as_slice())
-            && valid_placement(&table.placement, &columns, base_len)
-            && moves_made(table.made, &table.placement),
-    )
+) -> Result<bool, AllocError>
+    ensures { IfOk result (λ is. Decides is (IsTenantTable catalog.now base table.now)) }
+{
+    let columns = extended_columns(alloc, catalog, base, table.extended.as_slice())?;
+    Ok(keeps_rules(catalog, base, table, &columns))
 }
 
 /// Whether each of a tenant's tables keeps the rules.
@@ -114,7 +159,9 @@ fn all_tables(
     alloc: Global,
     catalog: &Catalog,
     tables: &List<TenantTable>,
-) -> Result<bool, AllocError> {
+) -> Result<bool, AllocError>
+    ensures { IfOk result (λ are. Decides are ((base : ℕ) (table : Kept) → slice_get tables.now base ≡ Some table → IsTenantTable catalog.now base table)) }
+{
     for base in 0..tables.len() {
         if !is_tenant_table(alloc, catalog, base, tables.get(base))? {
             return Ok(false);
@@ -123,25 +170,32 @@ fn all_tables(
     Ok(true)
 }
 
+/// Whether a tenant may have that number and that quota.
+fn are_within(number: u32, quota: u32) -> bool
+    ensures { Decides result (AreWithin number quota) }
+{
+    1 <= number && 1 <= quota && quota <= 65_536
+}
+
 /// Whether a tenant keeps the rules.
 fn is_tenant(
     alloc: Global,
     catalog: &Catalog,
     number: u32,
     entry: &TenantEntry,
-) -> Result<bool, AllocError> {
-    if number == 0
-        || entry.quota == 0
-        || entry.quota > 65_536
-        || entry.tables.len() != catalog.bases.len()
-    {
+) -> Result<bool, AllocError>
+    ensures { IfOk result (λ is. Decides is (IsTenant catalog.now number entry.now)) }
+{
+    if !are_within(number, entry.quota) || entry.tables.len() != catalog.bases.len() {
         return Ok(false);
     }
     all_tables(alloc, catalog, &entry.tables)
 }
 
 /// Whether each tenant keeps the rules.
-fn all_tenants(alloc: Global, catalog: &Catalog) -> Result<bool, AllocError> {
+fn all_tenants(alloc: Global, catalog: &Catalog) -> Result<bool, AllocError>
+    ensures { IfOk result (λ are. Decides are ((number : ℕ) (entry : Entry) → finite.get catalog.now.tenants number ≡ Some entry → IsTenant catalog.now number entry)) }
+{
     for (number, entry) in &catalog.tenants {
         if !is_tenant(alloc, catalog, *number, entry)? {
             return Ok(false);
@@ -151,7 +205,9 @@ fn all_tenants(alloc: Global, catalog: &Catalog) -> Result<bool, AllocError> {
 }
 
 /// Whether the quotas together are small enough.
-fn quotas_fit(tenants: &IndexMap<u32, TenantEntry>) -> bool {
+fn quotas_fit(tenants: &IndexMap<u32, TenantEntry>) -> bool
+    ensures { Decides result (QuotasFit (values tenants.now)) }
+{
     let mut left = QUOTAS;
     for entry in tenants.values() {
         if entry.quota > left {
@@ -162,18 +218,44 @@ fn quotas_fit(tenants: &IndexMap<u32, TenantEntry>) -> bool {
     true
 }
 
+/// Whether the base tables keep the rules.
+fn are_bases(bases: &[Table]) -> bool
+    ensures { Decides result (AreBases bases.now) }
+{
+    bases.len() <= 16 && all_bases(bases) && bases_are_apart(bases)
+}
+
+/// Whether the extensions keep the rules.
+fn are_extensions(catalog: &Catalog) -> bool
+    ensures { Decides result (AreExtensions catalog.now) }
+{
+    let extensions = catalog.extensions.as_slice();
+    extensions.len() <= 64
+        && all_extensions(catalog, extensions)
+        && extensions_are_apart(extensions)
+}
+
+/// Whether the tenants are few, and their quotas fit.
+fn are_few_tenants(catalog: &Catalog) -> bool
+    ensures { Decides result (AreFewTenants catalog.now) }
+{
+    catalog.tenants.len() <= 1000 && quotas_fit(&catalog.tenants)
+}
+
+/// Whether base tables, extensions and quotas keep the rules.
+fn keeps_most_rules(catalog: &Catalog) -> bool
+    ensures { Decides result (KeepsMostRules catalog.now) }
+{
+    are_bases(catalog.bases.as_slice()) && are_extensions(catalog) && are_few_tenants(catalog)
+}
+
 /// Whether the catalogue keeps the rules.
-pub(crate) fn is_catalogue(alloc: Global, catalog: &Catalog) -> Result<bool, AllocError> {
-    if catalog.bases.len() > 16
-        || catalog.extensions.len() > 64
-        || catalog.tenants.len() > 1000
-        || !all_bases(catalog.bases.as_slice())
-        || !bases_are_apart(catalog.bases.as_slice())
-        || !all_extensions(catalog, catalog.extensions.as_slice())
-        || !extensions_are_apart(catalog.extensions.as_slice())
-        || !quotas_fit(&catalog.tenants)
-    {
-        return Ok(false);
+pub(crate) fn is_catalogue(alloc: Global, catalog: &Catalog) -> Result<bool, AllocError>
+    ensures { IfOk result (λ is. Decides is (IsCatalogue catalog.now)) }
+{
+    if keeps_most_rules(catalog) {
+        all_tenants(alloc, catalog)
+    } else {
+        Ok(false)
     }
-    all_tenants(alloc, catalog)
 }
