@@ -8,6 +8,7 @@ pub mod Generations
 pub mod Keys
 pub mod Limits
 pub mod Made
+pub mod Numbered
 pub mod OneCatalogue
 pub mod OneFold
 pub mod OneRelation

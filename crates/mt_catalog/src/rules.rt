@@ -80,7 +80,10 @@ fn columns_are_apart(columns: &[Column], behind: &[Column]) -> bool
 {
     let mut rest = columns;
     while let Some((first, others)) = rest.split_first() {
-        if has_name(others, &first.name) || has_name(behind, &first.name) {
+        if has_name(others, &first.name) {
+            return false;
+        }
+        if has_name(behind, &first.name) {
             return false;
         }
         rest = others;
