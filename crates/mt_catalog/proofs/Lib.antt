@@ -12,5 +12,6 @@ pub mod Numbered
 pub mod OneCatalogue
 pub mod OneFold
 pub mod OneRelation
+pub mod Owned
 pub mod Runs
 pub mod Tested

@@ -1,8 +1,6 @@
-ghost use Rattle.std.specs.Prelude.{◌≡◌, ℕ, ◌++◌, All, flat_map, length, slice_get, Some, IfOk, OnOk};
+ghost use Rattle.std.specs.Prelude.{◌≡◌, ℕ, ◌++◌, All, flat_map, nat_eq, slice_get, Some, IfOk, OnOk};
 ghost use Rattle.std.specs.Bool.{Decides};
-ghost use Rattle.std.specs.FinMap as finite;
-ghost use Rattle.indexmap.specs.IndexMap.{values};
-ghost use Rattle.mt_catalog.specs.declared.state.TenantEntry.{TenantEntry as Entry};
+ghost use Rattle.std.specs.HashMap.{IsUnique, values};
 ghost use Rattle.mt_catalog.specs.declared.state.TenantTable.{TenantTable as Kept};
 ghost use Rattle.mt_catalog.specs.Clauses.{AreBases, AreExtensions, AreFewApart, AreFewTenants, AreMade, AreWithin, Extends, KeepsMostRules, QuotasFit};
 ghost use Rattle.mt_catalog.specs.Rules.{IsCatalogue, IsTenant, IsTenantTable, MovesMade};
@@ -192,11 +190,16 @@ fn is_tenant(
     all_tables(alloc, catalog, &entry.tables)
 }
 
-/// Whether each tenant keeps the rules.
-fn all_tenants(alloc: Global, catalog: &Catalog) -> Result<bool, AllocError>
-    ensures { IfOk result (λ are. Decides are ((number : ℕ) (entry : Entry) → finite.get catalog.now.tenants number ≡ Some entry → IsTenant catalog.now number entry)) }
+/// Whether each of these tenants keeps the rules of the catalogue.
+fn all_tenants(
+    alloc: Global,
+    catalog: &Catalog,
+    tenants: &IndexMap<u32, TenantEntry>,
+) -> Result<bool, AllocError>
+    ensures kept { IfOk result (λ are. Decides are (All (λ entry. IsTenant catalog.now entry.0 entry.1) tenants.now.entries)) }
+    ensures unique { IsUnique nat_eq tenants.now }
 {
-    for (number, entry) in &catalog.tenants {
+    for (number, entry) in tenants {
         if !is_tenant(alloc, catalog, *number, entry)? {
             return Ok(false);
         }
@@ -254,7 +257,7 @@ pub(crate) fn is_catalogue(alloc: Global, catalog: &Catalog) -> Result<bool, All
     ensures { IfOk result (λ is. Decides is (IsCatalogue catalog.now)) }
 {
     if keeps_most_rules(catalog) {
-        all_tenants(alloc, catalog)
+        all_tenants(alloc, catalog, &catalog.tenants)
     } else {
         Ok(false)
     }
