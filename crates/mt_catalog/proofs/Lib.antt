@@ -5,6 +5,7 @@ pub mod Chunks
 pub mod Cut
 pub mod Extensions
 pub mod Generations
+pub mod Judged
 pub mod Keys
 pub mod Limits
 pub mod Made
@@ -12,6 +13,6 @@ pub mod Numbered
 pub mod OneCatalogue
 pub mod OneFold
 pub mod OneRelation
-pub mod Owned
 pub mod Runs
+pub mod Said
 pub mod Tested

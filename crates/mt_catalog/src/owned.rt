@@ -1,5 +1,6 @@
 ghost use Rattle.std.specs.Prelude.{◌≡◌, All, slice_get, option_and_then, option_copied, option_map, Some};
 ghost use Rattle.std.specs.Bool.{Decides};
+ghost use Rattle.std.specs.HashMap.{values};
 ghost use Rattle.mt_fold.specs.declared.fold.Place.TheVariants as lies;
 ghost use Rattle.mt_catslot.specs.declared.slot.Class.TheVariants as classes;
 ghost use Rattle.mt_catslot.specs.declared.slot.CatSlot.TheVariants as slots;
@@ -17,7 +18,7 @@ use mt_value::Str;
 
 /// Whether the catalogue has each of these slots.
 pub(crate) fn has_slots(catalog: &Catalog, slots: &SlotMap) -> bool
-    ensures { Decides result (All (λ entry. spec.HasSlot catalog.now entry.1) slots.now.entries) }
+    ensures { Decides result (All (spec.HasSlot catalog.now) (values slots.now)) }
 {
     for slot in slots.values() {
         if !has_slot(catalog, slot) {

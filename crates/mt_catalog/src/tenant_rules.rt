@@ -1,4 +1,4 @@
-ghost use Rattle.std.specs.Prelude.{◌≡◌, ℕ, ◌++◌, All, flat_map, nat_eq, slice_get, Some, IfOk, OnOk};
+ghost use Rattle.std.specs.Prelude.{◌≡◌, ℕ, ◌≤◌, ◌++◌, All, flat_map, length, nat_eq, slice_get, Some, IfOk, OnOk};
 ghost use Rattle.std.specs.Bool.{Decides};
 ghost use Rattle.std.specs.HashMap.{IsUnique, values};
 ghost use Rattle.mt_catalog.specs.declared.state.TenantTable.{TenantTable as Kept};
@@ -238,11 +238,19 @@ fn are_extensions(catalog: &Catalog) -> bool
         && extensions_are_apart(extensions)
 }
 
-/// Whether the tenants are few, and their quotas fit.
+/// Whether these tenants are few, and their quotas together small enough.
+fn are_few(tenants: &IndexMap<u32, TenantEntry>) -> bool
+    ensures fit { Decides result ((length tenants.now.entries ≤ 1000) × QuotasFit (values tenants.now)) }
+    ensures unique { IsUnique nat_eq tenants.now }
+{
+    tenants.len() <= 1000 && quotas_fit(tenants)
+}
+
+/// Whether the catalogue's tenants are few, and their quotas together small enough.
 fn are_few_tenants(catalog: &Catalog) -> bool
     ensures { Decides result (AreFewTenants catalog.now) }
 {
-    catalog.tenants.len() <= 1000 && quotas_fit(&catalog.tenants)
+    are_few(&catalog.tenants)
 }
 
 /// Whether base tables, extensions and quotas keep the rules.
@@ -256,9 +264,8 @@ fn keeps_most_rules(catalog: &Catalog) -> bool
 pub(crate) fn is_catalogue(alloc: Global, catalog: &Catalog) -> Result<bool, AllocError>
     ensures { IfOk result (λ is. Decides is (IsCatalogue catalog.now)) }
 {
-    if keeps_most_rules(catalog) {
-        all_tenants(alloc, catalog, &catalog.tenants)
-    } else {
-        Ok(false)
+    if !keeps_most_rules(catalog) {
+        return Ok(false);
     }
+    all_tenants(alloc, catalog, &catalog.tenants)
 }
