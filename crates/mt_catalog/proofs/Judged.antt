@@ -1,14 +1,17 @@
 -- The rules of a catalogue by the parts that one test decides each.
 use Rattle.std.proofs.Common.{◌≡◌, ℕ, ◌≤◌, List, length, Some, sym, ap, ◌∙◌, subst}
-use Rattle.std.specs.Prelude.{◌↔◌, All, nat_eq, sum_by}
+use Rattle.std.specs.Prelude.{◌↔◌, All, nat_eq, slice_get, sum_by}
 use Rattle.std.specs.FinMap as finite
 use Rattle.std.specs.List.{IsDistinct}
 use Rattle.std.specs.Map.{keys_of, values_of}
 use Rattle.std.specs.Ordering.{nat_cmp}
+use Rattle.mt_tree.specs.declared.schema.Column.{Column}
+use Rattle.mt_catalog.specs.declared.state.Extension.{Extension}
 use Rattle.mt_catalog.specs.declared.state.TenantEntry.{TenantEntry}
-use Rattle.mt_catalog.specs.Clauses.{AreFewTenants, KeepsMostRules, QuotasFit}
-use Rattle.mt_catalog.specs.Rules.{IsCatalogue, IsTenant, quota_total}
-use Rattle.mt_catalog.specs.State.{State}
+use Rattle.mt_catalog.specs.declared.state.TenantTable.{TenantTable}
+use Rattle.mt_catalog.specs.Clauses.{AreFewTenants, AreKept, KeepsMostRules, QuotasFit}
+use Rattle.mt_catalog.specs.Rules.{IsCatalogue, IsTenant, IsTenantTable, quota_total}
+use Rattle.mt_catalog.specs.State.{State, base_columns, extended_columns}
 use Rattle.mt_catalog.proofs.Numbered.{as_many, each_got, got_each, same_sum}
 
 -- the quotas of the members of a map, and of entries
@@ -52,3 +55,19 @@ module _ (state : State) (es : List (ℕ × TenantEntry)) (is : finite.from_entr
 
 pub most_rules : (state : State) → IsCatalogue state → KeepsMostRules state
 most_rules state kept = ((kept.few_bases, kept.bases, kept.base_names), (kept.few_extensions, kept.extensions, kept.extension_names), (kept.few_tenants, kept.quotas))
+
+-- a tenant's table is kept by the parts that are known of it
+pub table_kept : (state : State) (base base_len : ℕ) (table : TenantTable) (columns : List Column) (extensions : List Extension) → columns ≡ extended_columns state base table.extended
+    → base_len ≡ length (base_columns (slice_get state.bases base)) → extensions ≡ state.extensions → AreKept extensions base base_len table columns ↔ IsTenantTable state base table
+table_kept state base base_len table columns extensions columns_are len_is extensions_are = (
+  λ kept.
+      let by_columns = subst (λ (of : List Column). AreKept extensions base base_len table of) columns_are kept in
+      let by_length = subst (λ (n : ℕ). AreKept extensions base n table (extended_columns state base table.extended)) len_is by_columns in
+      let whole = subst (λ (of : List Extension). AreKept of base (length (base_columns (slice_get state.bases base))) table (extended_columns state base table.extended)) extensions_are by_length in
+      record { made = whole.0.0.0; extended = whole.0.1; few = whole.1.0; apart = whole.1.1; placement = whole.2; moves = whole.0.0.1 },
+  λ rules.
+      let whole : AreKept state.extensions base (length (base_columns (slice_get state.bases base))) table (extended_columns state base table.extended) = (((rules.made, rules.moves), rules.extended), (rules.few, rules.apart), rules.placement) in
+      let by_extensions = subst (λ (of : List Extension). AreKept of base (length (base_columns (slice_get state.bases base))) table (extended_columns state base table.extended)) (sym extensions_are) whole in
+      let by_length = subst (λ (n : ℕ). AreKept extensions base n table (extended_columns state base table.extended)) (sym len_is) by_extensions in
+      subst (λ (of : List Column). AreKept extensions base base_len table of) (sym columns_are) by_length,
+)

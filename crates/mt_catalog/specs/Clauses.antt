@@ -3,6 +3,7 @@ use Rattle.std.specs.Prelude.{◌≡◌, ℕ, ◌<◌, ◌≤◌, ◌^◌, List,
 use Rattle.std.specs.FinMap as finite
 use Rattle.mt_tree.specs.declared.schema.Column.{Column}
 use Rattle.mt_tree.specs.declared.schema.Table.{Table}
+use Rattle.mt_fold.specs.Placements.{IsValidPlacement}
 use Rattle.mt_catalog.specs.declared.state.Extension.{Extension}
 use Rattle.mt_catalog.specs.declared.state.TenantEntry.{TenantEntry}
 use Rattle.mt_catalog.specs.declared.state.TenantTable.{TenantTable}
@@ -32,6 +33,14 @@ Extends extensions base number = (extension : Extension) × (slice_get extension
 -- so many rows are made, and those that move are
 abbrev pub AreMade : TenantTable → Type 0
 AreMade table = (table.made ≤ 2 ^ 63) × MovesMade table.made table.placement
+
+-- the rows and the extensions of a tenant's table keep the rules
+abbrev pub IsOfBase : List Extension → ℕ → TenantTable → Type 0
+IsOfBase extensions base table = AreMade table × All (Extends extensions base) table.extended
+
+-- a tenant's table with these columns, of which so many are the base table's, keeps the rules
+abbrev pub AreKept : List Extension → ℕ → ℕ → TenantTable → List Column → Type 0
+AreKept extensions base base_len table columns = IsOfBase extensions base table × AreFewApart columns × IsValidPlacement table.placement columns base_len
 
 -- a number and a quota that a tenant may have
 abbrev pub AreWithin : ℕ → ℕ → Type 0

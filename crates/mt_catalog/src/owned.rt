@@ -1,16 +1,16 @@
 ghost use Rattle.std.specs.Prelude.{◌≡◌, All, slice_get, option_and_then, option_copied, option_map, Some};
 ghost use Rattle.std.specs.Bool.{Decides};
+ghost use Rattle.std.specs.FinMap as finite;
 ghost use Rattle.std.specs.HashMap.{values};
 ghost use Rattle.mt_fold.specs.declared.fold.Place.TheVariants as lies;
 ghost use Rattle.mt_catslot.specs.declared.slot.Class.TheVariants as classes;
 ghost use Rattle.mt_catslot.specs.declared.slot.CatSlot.TheVariants as slots;
-ghost use Rattle.mt_catslot.specs.declared.slot.CatKey.TheVariants as keys;
 ghost use Rattle.mt_catalog.specs.State as state;
 ghost use Rattle.mt_catalog.specs.Slots as spec;
 
 use crate::members::{base_columns, extension_columns, member};
 use crate::slot_map::SlotMap;
-use crate::{Catalog, Extension, TenantTable};
+use crate::{Catalog, Extension, TenantEntry, TenantTable};
 use mt_catslot::{CatSlot, Class, Motion};
 use mt_fold::{Fold, Place, Placement, Shape};
 use mt_tree::{Column, Kind, Table};
@@ -143,11 +143,18 @@ fn is_column(column: &Column, kind: Kind, not_null: bool, key: bool, name: &Str)
     column.kind == kind && column.not_null == not_null && column.key == key && column.name == *name
 }
 
+/// A tenant, if there is one of that number.
+fn tenant_of(catalog: &Catalog, tenant: u32) -> Option<&TenantEntry>
+    ensures { option_copied result ≡ finite.get catalog.now.tenants tenant }
+{
+    catalog.tenants.get(&tenant)
+}
+
 /// Whether a tenant has this quota.
 fn has_quota(catalog: &Catalog, tenant: u32, quota: u32) -> bool
-    ensures { Decides result (spec.slot_of catalog.now (keys.Tenant tenant) ≡ Some (slots.Tenant tenant quota)) }
+    ensures { Decides result (option_map (λ entry. slots.Tenant tenant entry.quota) (finite.get catalog.now.tenants tenant) ≡ Some (slots.Tenant tenant quota)) }
 {
-    match catalog.tenants.get(&tenant) {
+    match tenant_of(catalog, tenant) {
         None => false,
         Some(entry) => entry.quota == quota,
     }
@@ -157,7 +164,7 @@ fn has_quota(catalog: &Catalog, tenant: u32, quota: u32) -> bool
 fn table_of(catalog: &Catalog, tenant: u32, base: u32) -> Option<&TenantTable>
     ensures { option_copied result ≡ state.tenant_table catalog.now tenant base }
 {
-    match catalog.tenants.get(&tenant) {
+    match tenant_of(catalog, tenant) {
         None => None,
         Some(entry) => member(entry.tables.as_slice(), base as usize),
     }

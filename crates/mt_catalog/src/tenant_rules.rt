@@ -2,7 +2,7 @@ ghost use Rattle.std.specs.Prelude.{◌≡◌, ℕ, ◌≤◌, ◌++◌, All, fl
 ghost use Rattle.std.specs.Bool.{Decides};
 ghost use Rattle.std.specs.HashMap.{IsUnique, values};
 ghost use Rattle.mt_catalog.specs.declared.state.TenantTable.{TenantTable as Kept};
-ghost use Rattle.mt_catalog.specs.Clauses.{AreBases, AreExtensions, AreFewApart, AreFewTenants, AreMade, AreWithin, Extends, KeepsMostRules, QuotasFit};
+ghost use Rattle.mt_catalog.specs.Clauses.{AreBases, AreExtensions, AreFewApart, AreFewTenants, AreKept, AreMade, AreWithin, Extends, IsOfBase, KeepsMostRules, QuotasFit};
 ghost use Rattle.mt_catalog.specs.Rules.{IsCatalogue, IsTenant, IsTenantTable, MovesMade};
 ghost use Rattle.mt_catalog.specs.State as state;
 
@@ -123,18 +123,24 @@ fn are_few_apart(columns: &[Column]) -> bool
     columns.len() <= 32 && own_columns_are_apart(columns)
 }
 
-/// Whether a tenant's table with these columns keeps the rules.
-fn keeps_rules(catalog: &Catalog, base: usize, table: &TenantTable, columns: &Columns) -> bool
-    requires { columns.now ≡ state.extended_columns catalog.now base table.now.extended }
-    ensures { Decides result (IsTenantTable catalog.now base table.now) }
+/// Whether the rows and the extensions of a tenant's table keep the rules.
+fn is_of_base(extensions: &[Extension], base: usize, table: &TenantTable) -> bool
+    ensures { Decides result (IsOfBase extensions.now base table.now) }
 {
-    let base_len = base_columns(catalog.bases.as_slice(), base).len();
-    are_made(table)
-        && all_extend(
-            catalog.extensions.as_slice(),
-            base,
-            table.extended.as_slice(),
-        )
+    are_made(table) && all_extend(extensions, base, table.extended.as_slice())
+}
+
+/// Whether a tenant's table with these columns, of which so many are the base table's, keeps the rules.
+fn are_kept(
+    extensions: &[Extension],
+    base: usize,
+    base_len: usize,
+    table: &TenantTable,
+    columns: &Columns,
+) -> bool
+    ensures { Decides result (AreKept extensions.now base base_len table.now columns.now) }
+{
+    is_of_base(extensions, base, table)
         && are_few_apart(columns.as_slice())
         && valid_placement(&table.placement, columns, base_len)
 }
@@ -149,7 +155,9 @@ fn is_tenant_table(
     ensures { IfOk result (λ is. Decides is (IsTenantTable catalog.now base table.now)) }
 {
     let columns = extended_columns(alloc, catalog, base, table.extended.as_slice())?;
-    Ok(keeps_rules(catalog, base, table, &columns))
+    let base_len = base_columns(catalog.bases.as_slice(), base).len();
+    let extensions = catalog.extensions.as_slice();
+    Ok(are_kept(extensions, base, base_len, table, &columns))
 }
 
 /// Whether each of a tenant's tables keeps the rules.
