@@ -14,5 +14,4 @@ pub mod OneCatalogue
 pub mod OneFold
 pub mod OneRelation
 pub mod Runs
-pub mod Said
 pub mod Tested
