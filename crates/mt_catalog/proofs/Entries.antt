@@ -208,7 +208,7 @@ pub all_said : (bodies : List (ℕ × List ℕ)) (entries : List (CatKey × CatS
     → map (λ body. says body.0 body.1) bodies ≡ map (λ entry. Some entry.1) entries
 all_said bodies entries size front =
     same_members (map (λ body. says body.0 body.1) bodies) (map (λ entry. Some entry.1) entries)
-    (length-map (λ body. says body.0 body.1) bodies ∙ sym size ∙ sym (length-map (λ (entry : CatKey × CatSlot). Some entry.1) entries)) (λ n x y e f.
+    (length-map bodies (λ body. says body.0 body.1) ∙ sym size ∙ sym (length-map entries (λ entry. Some entry.1))) (λ n x y e f.
         let body = from_mapped (λ body. says body.0 body.1) bodies n x e in
         let entry = from_mapped (λ (entry : CatKey × CatSlot). Some entry.1) entries n y f in
         let said = front n entry.0 entry.1 in
