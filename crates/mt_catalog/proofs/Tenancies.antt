@@ -1,10 +1,10 @@
 -- Tenants and tables that no catalogue has, and the map of the tenants that were found.
-use Rattle.std.proofs.Common.{◌≡◌, ℕ, ◌<◌, ◌≤◌, Bool, true, false, cond, List, [], ◌∷◌, length, Option, None, Some, refl, sym, ap, ◌∙◌, subst, arith}
+use Rattle.std.proofs.Common.{◌≡◌, ℕ, ◌<◌, ◌≤◌, Bool, true, false, cond, ◌||◌, List, [], ◌∷◌, length, Option, None, Some, refl, sym, ap, ◌∙◌, subst, arith, eqb-true}
 use Rattle.std.specs.Prelude.{IsSome, is_some, nat_eq, option_map, slice_get}
 use Rattle.std.specs.List.{list_any}
 use Rattle.std.specs.Map.{keys_of, lookup}
 use Rattle.std.specs.Ordering.{eq_by_cmp, nat_cmp}
-use Rattle.std.specs.Cmp.{nat_cmp_total, unsigned_tied}
+use Rattle.std.specs.Cmp.{nat_cmp_total, nat_eq_equiv, unsigned_tied}
 use Rattle.std.specs.FinMap as finite
 use Rattle.mt_tree.specs.declared.schema.Table.{Table}
 use Rattle.mt_catslot.specs.declared.slot.CatSlot.{CatSlot}
@@ -19,14 +19,6 @@ use Rattle.mt_catalog.specs.Keyed.{same_key, slot_in}
 use Rattle.mt_catalog.proofs.Catalogues.{catalogue_is_found}
 use Rattle.mt_catalog.proofs.OneRelation.{one_bases}
 use Rattle.mt_catalog.proofs.Runs.{present}
-
--- a tenant's key by which no tenant is found
-pub no_tenant : (found : Found) (tenant : ℕ) → IsSome (found (keys.Tenant tenant)) → tenant_found (found (keys.Tenant tenant)) ≡ None → IsOfNone found
-no_tenant found tenant some none state is = by (finite.get state.tenants tenant) (is.same (keys.Tenant tenant))
-  where
-    by : (o : Option TenantEntry) → found (keys.Tenant tenant) ≡ option_map (λ entry. slots.Tenant tenant entry.quota) o → ⊥
-    by None e = let no : false ≡ true = ap is_some (sym e) ∙ some in cc
-    by (Some entry) e = let no : Some entry.quota ≡ None = ap tenant_found (sym e) ∙ none in cc
 
 -- a tenant without a table of a base table
 pub no_placement : (found : Found) (bases : List Table) (tenant base : ℕ) → AreFoundBases found bases → IsSome (tenant_found (found (keys.Tenant tenant))) → base < length bases
@@ -53,7 +45,7 @@ listed [] key = refl
 listed (entry ∷ entries) key = by (same_key key entry.0) (listed entries key)
   where
     by : (b : Bool) → list_any (same_key key) (keys_of entries) ≡ is_some (slot_in entries key)
-        → cond b true (list_any (same_key key) (keys_of entries)) ≡ is_some (cond b (Some entry.1) (slot_in entries key))
+        → (b || list_any (same_key key) (keys_of entries)) ≡ is_some (cond b (Some entry.1) (slot_in entries key))
     by true rest = refl
     by false rest = rest
 
@@ -64,3 +56,29 @@ finite_lookup entries tenant = finite.get-from_entries nat_cmp_total entries ten
     found : (entries : List (ℕ × TenantEntry)) → finite.find nat_cmp tenant entries ≡ lookup (nat_eq tenant) entries
     found [] = refl
     found (entry ∷ entries) = ap (λ b. cond b (Some entry.1) (finite.find nat_cmp tenant entries)) (unsigned_tied tenant entry.0) ∙ ap (cond (nat_eq tenant entry.0) (Some entry.1)) (found entries)
+
+-- a key stands among keys with one more in front
+pub later_key : (key first : CatKey) (left : List CatKey) → list_any (same_key key) left ≡ true → list_any (same_key key) (first ∷ left) ≡ true
+later_key key first left e = by (same_key key first)
+  where
+    by : (b : Bool) → (b || list_any (same_key key) left) ≡ true
+    by true = refl
+    by false = e
+
+-- a map with one entry more
+module _ (tenant : ℕ) (entry : TenantEntry) (old new : ℕ → Option TenantEntry) (adds : (number : ℕ) → new number ≡ cond (nat_eq tenant number) (Some entry) (old number)) where
+  pub each_added : (Stands : ℕ → TenantEntry → Type 0) → Stands tenant entry → ((number : ℕ) (e : TenantEntry) → old number ≡ Some e → Stands number e)
+      → (number : ℕ) (e : TenantEntry) → new number ≡ Some e → Stands number e
+  each_added Stands here each number e is = by (nat_eq tenant number) refl (sym (adds number) ∙ is)
+    where
+      by : (b : Bool) → nat_eq tenant number ≡ b → cond b (Some entry) (old number) ≡ Some e → Stands number e
+      by true same f = let equal : entry ≡ e = cc in subst (λ (n : ℕ). Stands n e) (eqb-true tenant number same) (subst (Stands tenant) equal here)
+      by false same f = each number e f
+
+  pub missing_added : (found : Found) (left : List CatKey) → ((number : ℕ) → old number ≡ None → is_some (found (keys.Tenant number)) ≡ list_any (same_key (keys.Tenant number)) (keys.Tenant tenant ∷ left))
+      → (number : ℕ) → new number ≡ None → is_some (found (keys.Tenant number)) ≡ list_any (same_key (keys.Tenant number)) left
+  missing_added found left missing number is = by (nat_eq tenant number) refl (sym (adds number) ∙ is)
+    where
+      by : (b : Bool) → nat_eq tenant number ≡ b → cond b (Some entry) (old number) ≡ None → is_some (found (keys.Tenant number)) ≡ list_any (same_key (keys.Tenant number)) left
+      by true same f = absurd (cc)
+      by false same f = missing number f ∙ ap (λ b. b || list_any (same_key (keys.Tenant number)) left) (nat_eq_equiv.symm number tenant ∙ same)
