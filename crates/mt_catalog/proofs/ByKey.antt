@@ -94,3 +94,42 @@ derived_same (keys.Field tenant base generation column) (keys.Tenant t) = refl
 derived_same (keys.Field tenant base generation column) (keys.Placement t b) = refl
 derived_same (keys.Field tenant base generation column) (keys.Extended t b p) = refl
 derived_same (keys.Field tenant base generation column) (keys.Field t b g c) = refl
+
+-- keys that are one are equal
+pub key_is : (a b : CatKey) → same_key a b ≡ true → a ≡ b
+key_is (keys.Relation class number) (keys.Relation c n) e = let p = both_true (same_class class c) (number == n) e in let q = class_is class c p.0 in let r = eqb-true number n p.1 in cc
+key_is (keys.Column class number position) (keys.Column c n p) e =
+    let first = both_true (same_class class c) ((number == n) && (position == p)) e in
+    let rest = both_true (number == n) (position == p) first.1 in
+    let classes = class_is class c first.0 in
+    let numbers = eqb-true number n rest.0 in
+    let positions = eqb-true position p rest.1 in
+    cc
+key_is (keys.Tenant tenant) (keys.Tenant t) e = let tenants = eqb-true tenant t e in cc
+key_is (keys.Placement tenant base) (keys.Placement t b) e =
+    let both = both_true (tenant == t) (base == b) e in let tenants = eqb-true tenant t both.0 in let bases = eqb-true base b both.1 in cc
+key_is (keys.Extended tenant base position) (keys.Extended t b p) e =
+    let first = both_true (tenant == t) ((base == b) && (position == p)) e in
+    let rest = both_true (base == b) (position == p) first.1 in
+    let tenants = eqb-true tenant t first.0 in
+    let bases = eqb-true base b rest.0 in
+    let positions = eqb-true position p rest.1 in
+    cc
+key_is (keys.Field tenant base generation column) (keys.Field t b g c) e =
+    let first = both_true (tenant == t) ((base == b) && ((generation == g) && (column == c))) e in
+    let second = both_true (base == b) ((generation == g) && (column == c)) first.1 in
+    let rest = both_true (generation == g) (column == c) second.1 in
+    let tenants = eqb-true tenant t first.0 in
+    let bases = eqb-true base b second.0 in
+    let generations = eqb-true generation g rest.0 in
+    let columns = eqb-true column c rest.1 in
+    cc
+key_is key other e = absurd (cc)
+
+-- keys that are not one are not so in the other order
+pub other_key : (a b : CatKey) → same_key a b ≡ false → same_key b a ≡ false
+other_key a b apart = by (same_key b a) refl
+  where
+    by : (x : Bool) → same_key b a ≡ x → same_key b a ≡ false
+    by false e = e
+    by true e = let no : true ≡ false = sym (subst (λ (key : CatKey). same_key a key ≡ true) (sym (key_is b a e)) (own_key a)) ∙ apart in absurd (cc)

@@ -3,6 +3,7 @@ pub mod ByKey
 pub mod Catalogues
 pub mod Chunks
 pub mod Cut
+pub mod Entries
 pub mod Extensions
 pub mod Generations
 pub mod Judged
@@ -14,4 +15,5 @@ pub mod OneCatalogue
 pub mod OneFold
 pub mod OneRelation
 pub mod Runs
+pub mod Tenancies
 pub mod Tested

@@ -1,6 +1,8 @@
 ghost use Rattle.std.specs.Prelude.{◌≡◌, ◌≤◌, All, length, IfOk, IsErrOf};
 ghost use Rattle.mt_rowfile.specs.Layouts.{body_width};
 ghost use Rattle.mt_rowfile.specs.Slots.{IsBody};
+ghost use Rattle.mt_catalog.specs.Found.{IsFound, IsOf, IsOfNone};
+ghost use Rattle.mt_catalog.specs.Keyed.{slot_in};
 ghost use Rattle.mt_catalog.specs.Reading.{IsDamagedCatalogue, SayCatalogue};
 ghost use Rattle.mt_catalog.specs.Rules.{IsCatalogue};
 
@@ -53,7 +55,10 @@ pub fn read_catalog(alloc: Global, bodies: &CatBodies) -> Result<Catalog, CatFau
 }
 
 /// The catalogue that has these slots and no other.
-pub(crate) fn catalog_of(alloc: Global, slots: &SlotMap) -> Result<Catalog, CatFault> {
+pub(crate) fn catalog_of(alloc: Global, slots: &SlotMap) -> Result<Catalog, CatFault>
+    ensures ok { IfOk result (λ catalog. IsOf (slot_in slots.now.entries) catalog) }
+    ensures damaged { IsErrOf result CatFault.Damaged → IsOfNone (slot_in slots.now.entries) }
+{
     let catalog = build_catalog(alloc, slots)?;
     if has_slots(&catalog, slots) && is_catalogue(alloc, &catalog)? {
         Ok(catalog)
@@ -63,7 +68,10 @@ pub(crate) fn catalog_of(alloc: Global, slots: &SlotMap) -> Result<Catalog, CatF
 }
 
 /// The catalogue that is made of what the slots say.
-fn build_catalog(alloc: Global, slots: &SlotMap) -> Result<Catalog, CatFault> {
+fn build_catalog(alloc: Global, slots: &SlotMap) -> Result<Catalog, CatFault>
+    ensures ok { IfOk result (λ catalog. IsFound (slot_in slots.now.entries) catalog) }
+    ensures damaged { IsErrOf result CatFault.Damaged → IsOfNone (slot_in slots.now.entries) }
+{
     let bases = read_bases(alloc, slots)?;
     let extensions = read_extensions(alloc, slots)?;
     let tenants = read_tenants(alloc, slots, &bases, &extensions)?;

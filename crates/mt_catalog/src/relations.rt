@@ -1,6 +1,7 @@
-ghost use Rattle.std.specs.Prelude.{◌≡◌, IfOk, IsErrOf};
+ghost use Rattle.std.specs.Prelude.{◌≡◌, ◌≤◌, length, IfOk, IsErrOf};
 ghost use Rattle.mt_catalog.specs.Found.{AreFoundBases, AreFoundColumns, AreFoundExtensions, IsOfNone};
 ghost use Rattle.mt_catalog.specs.Keyed.{slot_in};
+ghost use Rattle.mt_catalog.specs.Small.{AreNarrow, AreSmallBases};
 
 use crate::lookups::{column_at, relation_at};
 use crate::slot_map::SlotMap;
@@ -18,6 +19,7 @@ fn read_columns(
     number: u32,
 ) -> Result<Columns, CatFault>
     ensures ok { IfOk result (λ columns. AreFoundColumns (slot_in slots.now.entries) class number columns) }
+    ensures few { IfOk result (λ columns. length columns ≤ 16) }
     ensures damaged { IsErrOf result CatFault.Damaged → IsOfNone (slot_in slots.now.entries) }
 {
     let mut columns = List::new(alloc);
@@ -33,6 +35,7 @@ fn read_columns(
 /// The base tables.
 pub(crate) fn read_bases(alloc: Global, slots: &SlotMap) -> Result<List<Table>, CatFault>
     ensures ok { IfOk result (λ bases. AreFoundBases (slot_in slots.now.entries) bases) }
+    ensures small { IfOk result AreSmallBases }
     ensures damaged { IsErrOf result CatFault.Damaged → IsOfNone (slot_in slots.now.entries) }
 {
     let mut bases = List::new(alloc);
@@ -49,6 +52,7 @@ pub(crate) fn read_bases(alloc: Global, slots: &SlotMap) -> Result<List<Table>, 
 /// The extensions.
 pub(crate) fn read_extensions(alloc: Global, slots: &SlotMap) -> Result<List<Extension>, CatFault>
     ensures ok { IfOk result (λ extensions. AreFoundExtensions (slot_in slots.now.entries) extensions) }
+    ensures narrow { IfOk result AreNarrow }
     ensures damaged { IsErrOf result CatFault.Damaged → IsOfNone (slot_in slots.now.entries) }
 {
     let mut extensions = List::new(alloc);

@@ -1,12 +1,14 @@
 -- One extension more was found; a sixty-fifth is none of a catalogue.
-use Rattle.std.proofs.Common.{◌≡◌, ℕ, ◌+◌, ◌∙◌, List, [], ◌∷◌, ◌++◌, length, None, Some, sym, ap, subst, arith, rules}
+use Rattle.std.proofs.Common.{◌≡◌, ℕ, ◌+◌, ◌≤◌, ◌∙◌, List, [], ◌∷◌, ◌++◌, length, None, Some, sym, ap, subst, arith, rules}
 use Rattle.std.specs.Prelude.{slice_get}
 use Rattle.std.proofs.lemmas.List.{length-append}
+use Rattle.std.proofs.lemmas.List.Elements.{All-push}
 use Rattle.mt_catslot.specs.declared.slot.Class.TheVariants as classes
 use Rattle.mt_catslot.specs.declared.slot.CatKey.TheVariants as keys
 use Rattle.mt_catalog.specs.declared.state.Extension.{Extension}
 use Rattle.mt_catalog.specs.Found.{IsFoundExtension, relation_found}
 use Rattle.mt_catalog.specs.Keyed.{slot_in}
+use Rattle.mt_catalog.specs.Small.{AreNarrow}
 use Rattle.mt_catalog.proofs.Limits.{too_many_extensions}
 use Rattle.mt_catalog.proofs.Runs.{run_pushed}
 use Rattle.mt_catalog.proofs.relations.read_extensions.Goals as goal
@@ -27,6 +29,7 @@ loop-number-preserved c =
       size = ap length pushed ∙ omega (arith, length-append extensions (made ∷ []), c.loop-number.invariant.size);
       each = λ n extension is. run_pushed (IsFoundExtension (slot_in c.args.slots.now.entries)) extensions made c.loop-number.invariant.each
           (subst (λ (n : ℕ). IsFoundExtension (slot_in c.args.slots.now.entries) n made) (sym c.loop-number.invariant.size) here) n extension (subst (λ (of : List Extension). slice_get of n ≡ Some extension) pushed is);
+      narrow = subst AreNarrow (sym pushed) (All-push (λ (extension : Extension). length extension.columns ≤ 16) extensions made c.loop-number.invariant.narrow c.in_ok-columns.ensures.few);
     }
 
 pub returns-clause-damaged : goal.returns-clause-damaged
