@@ -11,24 +11,21 @@ use Rattle.mt_catalog.specs.declared.state.Extension.{Extension}
 use Rattle.mt_catalog.specs.declared.state.TenantTable.{TenantTable}
 use Rattle.mt_catalog.specs.State.{State, base_columns, extension_columns, tenant_table}
 use Rattle.mt_catalog.specs.Slots.{extended_slot}
+use Rattle.mt_catalog.specs.Clauses.{Extends}
 use Rattle.mt_catalog.specs.Rules.{IsExtension}
 use Rattle.mt_catalog.specs.Found.{Found, IsOf, IsOfNone, extended_found}
 use Rattle.mt_catalog.proofs.Chunks.{table_keeps}
 use Rattle.mt_catalog.proofs.Limits.{member_keeps}
 use Rattle.mt_catalog.proofs.Runs.{present}
 
--- an extension of that base table is there
-abbrev pub Extends : State → ℕ → ℕ → Type 0
-Extends state base number = (extension : Extension) × (slice_get state.extensions number ≡ Some extension) × (extension.base ≡ base)
-
 module _ (found : Found) (state : State) (is : IsOf found state) (base : ℕ) where
   -- each extension has a column
-  numbers_fit : (numbers : List ℕ) → All (Extends state base) numbers → length numbers ≤ length (flat_map (λ number. extension_columns (slice_get state.extensions number)) numbers)
+  numbers_fit : (numbers : List ℕ) → All (Extends state.extensions base) numbers → length numbers ≤ length (flat_map (λ number. extension_columns (slice_get state.extensions number)) numbers)
   numbers_fit [] all = omega arith
   numbers_fit (number ∷ numbers) all =
-      let there = All-head (Extends state base) number numbers all in
+      let there = All-head (Extends state.extensions base) number numbers all in
       let some = (member_keeps (IsExtension state) state.extensions number there.0 is.rules.extensions there.1).columns.some in
-      let rest = numbers_fit numbers (All-tail (Extends state base) number numbers all) in
+      let rest = numbers_fit numbers (All-tail (Extends state.extensions base) number numbers all) in
       let here : length there.0.columns ≡ length (extension_columns (slice_get state.extensions number)) = ap (λ (o : Option Extension). length (extension_columns o)) (sym there.1) in
       omega (arith, some, rest, here, length-append (extension_columns (slice_get state.extensions number)) (flat_map (λ number. extension_columns (slice_get state.extensions number)) numbers))
 

@@ -17,3 +17,4 @@ pub mod OneRelation
 pub mod Runs
 pub mod Tenancies
 pub mod Tested
+pub mod Whole

@@ -2,9 +2,8 @@
 use Rattle.std.proofs.Common.{◌≡◌, ℕ, ◌<◌, ◌≤◌, Bool, true, false, cond, ◌||◌, List, [], ◌∷◌, length, Option, None, Some, refl, sym, ap, ◌∙◌, subst, arith, eqb-true}
 use Rattle.std.specs.Prelude.{IsSome, is_some, nat_eq, option_map, slice_get}
 use Rattle.std.specs.List.{list_any}
-use Rattle.std.specs.Map.{keys_of, lookup}
-use Rattle.std.specs.Ordering.{eq_by_cmp, nat_cmp}
-use Rattle.std.specs.Cmp.{nat_cmp_total, nat_eq_equiv, unsigned_tied}
+use Rattle.std.specs.Map.{keys_of}
+use Rattle.std.specs.Cmp.{nat_eq_equiv}
 use Rattle.std.specs.FinMap as finite
 use Rattle.mt_tree.specs.declared.schema.Table.{Table}
 use Rattle.mt_catslot.specs.declared.slot.CatSlot.{CatSlot}
@@ -48,14 +47,6 @@ listed (entry ∷ entries) key = by (same_key key entry.0) (listed entries key)
         → (b || list_any (same_key key) (keys_of entries)) ≡ is_some (cond b (Some entry.1) (slot_in entries key))
     by true rest = refl
     by false rest = rest
-
--- the map of entries has what a look-up finds among these
-pub finite_lookup : (entries : List (ℕ × TenantEntry)) (tenant : ℕ) → finite.get (finite.from_entries {R = nat_cmp} entries) tenant ≡ lookup (nat_eq tenant) entries
-finite_lookup entries tenant = finite.get-from_entries nat_cmp_total entries tenant ∙ found entries
-  where
-    found : (entries : List (ℕ × TenantEntry)) → finite.find nat_cmp tenant entries ≡ lookup (nat_eq tenant) entries
-    found [] = refl
-    found (entry ∷ entries) = ap (λ b. cond b (Some entry.1) (finite.find nat_cmp tenant entries)) (unsigned_tied tenant entry.0) ∙ ap (cond (nat_eq tenant entry.0) (Some entry.1)) (found entries)
 
 -- a key stands among keys with one more in front
 pub later_key : (key first : CatKey) (left : List CatKey) → list_any (same_key key) left ≡ true → list_any (same_key key) (first ∷ left) ≡ true

@@ -1,6 +1,7 @@
 ghost use Rattle.std.specs.Prelude.{◌≡◌, ◌≤◌, All, length, IfOk, IsErrOf};
 ghost use Rattle.mt_rowfile.specs.Layouts.{body_width};
 ghost use Rattle.mt_rowfile.specs.Slots.{IsBody};
+ghost use Rattle.mt_catalog.specs.Entries.{AreKeyed};
 ghost use Rattle.mt_catalog.specs.Found.{IsFound, IsOf, IsOfNone};
 ghost use Rattle.mt_catalog.specs.Keyed.{slot_in};
 ghost use Rattle.mt_catalog.specs.Reading.{IsDamagedCatalogue, SayCatalogue};
@@ -54,17 +55,19 @@ pub fn read_catalog(alloc: Global, bodies: &CatBodies) -> Result<Catalog, CatFau
     catalog_of(alloc, &slots)
 }
 
-/// The catalogue that has these slots and no other.
+/// The catalogue that has these slots and no other, where each stands by its own key.
 pub(crate) fn catalog_of(alloc: Global, slots: &SlotMap) -> Result<Catalog, CatFault>
-    ensures ok { IfOk result (λ catalog. IsOf (slot_in slots.now.entries) catalog) }
-    ensures damaged { IsErrOf result CatFault.Damaged → IsOfNone (slot_in slots.now.entries) }
+    ensures ok { AreKeyed slots.now.entries → IfOk result (λ catalog. IsOf (slot_in slots.now.entries) catalog) }
+    ensures damaged { AreKeyed slots.now.entries → IsErrOf result CatFault.Damaged → IsOfNone (slot_in slots.now.entries) }
 {
     let catalog = build_catalog(alloc, slots)?;
-    if has_slots(&catalog, slots) && is_catalogue(alloc, &catalog)? {
-        Ok(catalog)
-    } else {
-        Err(CatFault::Damaged)
+    if !has_slots(&catalog, slots) {
+        return Err(CatFault::Damaged);
     }
+    if !is_catalogue(alloc, &catalog)? {
+        return Err(CatFault::Damaged);
+    }
+    Ok(catalog)
 }
 
 /// The catalogue that is made of what the slots say.
