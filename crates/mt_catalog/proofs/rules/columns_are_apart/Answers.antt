@@ -13,8 +13,8 @@ returns-then-has_name c =
       λ e. absurd (false≢true e),
       λ apart.
           sym (not_of_either c.in-Some.first.now.name (column_names c.in-Some.others.now) (column_names c.args.behind.now)
-              (first_apart (column_names c.loop-first.rest.now ++ column_names c.args.behind.now) (column_names c.in-Some.others.now ++ column_names c.args.behind.now) c.in-Some.first.now.name
-              (ap (λ (of : List Column). column_names of ++ column_names c.args.behind.now) is) (c.loop-first.invariant.1 apart))).0
+          (first_apart (column_names c.loop-first.rest.now ++ column_names c.args.behind.now) (column_names c.in-Some.others.now ++ column_names c.args.behind.now) c.in-Some.first.now.name
+          (ap (λ (of : List Column). column_names of ++ column_names c.args.behind.now) is) (c.loop-first.invariant.1 apart))).0
           ∙ sym c.if-has_name.ensures,
     )
 
@@ -24,8 +24,8 @@ returns-then-has_name-2 c =
       λ e. absurd (false≢true e),
       λ apart.
           sym (not_of_either c.in-Some.first.now.name (column_names c.in-Some.others.now) (column_names c.args.behind.now)
-              (first_apart (column_names c.loop-first.rest.now ++ column_names c.args.behind.now) (column_names c.in-Some.others.now ++ column_names c.args.behind.now) c.in-Some.first.now.name
-              (ap (λ (of : List Column). column_names of ++ column_names c.args.behind.now) is) (c.loop-first.invariant.1 apart))).1
+          (first_apart (column_names c.loop-first.rest.now ++ column_names c.args.behind.now) (column_names c.in-Some.others.now ++ column_names c.args.behind.now) c.in-Some.first.now.name
+          (ap (λ (of : List Column). column_names of ++ column_names c.args.behind.now) is) (c.loop-first.invariant.1 apart))).1
           ∙ sym c.if-has_name-2.ensures,
     )
 
