@@ -1,5 +1,5 @@
 -- Tests of the members of a list, one after another.
-use Rattle.std.proofs.Common.{◌≡◌, List, ◌∷◌, refl, sym}
+use Rattle.std.proofs.Common.{◌≡◌, List, ◌∷◌, sym}
 use Rattle.std.specs.Prelude.{All, ◌↔◌}
 use Rattle.std.proofs.lemmas.List.Elements.{All-cons, All-same, All-tail}
 

@@ -1,5 +1,5 @@
 -- The schema steps: when each is refused, and the catalogue after one that is not.
-use Rattle.std.specs.Prelude.{ℕ, ◌+◌, ◌-◌, Bool, true, false, not, ◌||◌, ◌&&◌, nat_eq, nat_le, nat_lt, if◌then◌else◌, List, [], ◌∷◌, ◌++◌, length, map, position, replicate, count_by, slice_get, slice_set, Option, Some, None, is_some, option_map, unwrap_or}
+use Rattle.std.specs.Prelude.{ℕ, ◌+◌, ◌-◌, Bool, true, false, not, ◌||◌, ◌&&◌, nat_le, nat_lt, if◌then◌else◌, List, [], ◌∷◌, ◌++◌, length, map, position, replicate, count_by, slice_get, slice_set, Option, Some, None, is_some, unwrap_or}
 use Rattle.std.specs.List.{list_all, list_any}
 use Rattle.std.specs.Str.{bytes_eq}
 use Rattle.std.specs.Ordering.{nat_cmp}
@@ -16,7 +16,6 @@ use Rattle.mt_tree.specs.declared.schema.Column.{Column}
 use Rattle.mt_tree.specs.declared.schema.Kind.{Kind}
 use Rattle.mt_tree.specs.declared.schema.Kind.TheVariants.{Integer, Varchar}
 use Rattle.mt_tree.specs.declared.schema.Table.{Table}
-use Rattle.mt_fold.specs.declared.fold.Fold.{Fold}
 use Rattle.mt_fold.specs.declared.fold.Place.TheVariants.{Conv}
 use Rattle.mt_fold.specs.declared.fold.Placement.{Placement}
 use Rattle.mt_fold.specs.declared.fold.Placement.TheVariants.{Settled, Moving}
@@ -28,7 +27,7 @@ use Rattle.mt_catalog.specs.declared.state.Extension.{Extension}
 use Rattle.mt_catalog.specs.declared.state.TenantEntry.{TenantEntry}
 use Rattle.mt_catalog.specs.declared.state.TenantTable.{TenantTable}
 use Rattle.mt_catalog.specs.Rules.{column_names, quota_total}
-use Rattle.mt_catalog.specs.State.{State, base_columns, extended_columns, extension_columns, tenant_table}
+use Rattle.mt_catalog.specs.State.{State, base_columns, extended_columns, tenant_table}
 
 -- the first code whose test holds
 abbrev pub first_holding : List (Code × Bool) → Option Code

@@ -1,5 +1,5 @@
 -- By the map of the entries.
-use Rattle.std.proofs.Common.{◌≡◌, sym, ap, ◌∙◌}
+use Rattle.std.proofs.Common.{sym, ap, ◌∙◌}
 use Rattle.std.specs.FinMap as finite
 use Rattle.mt_catalog.specs.State.{State}
 use Rattle.mt_catalog.proofs.Numbered.{got_looked}

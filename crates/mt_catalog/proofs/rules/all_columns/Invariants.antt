@@ -1,5 +1,5 @@
 -- What is left decides.
-use Rattle.std.proofs.Common.{◌≡◌, ℕ, length}
+use Rattle.std.proofs.Common.{length}
 use Rattle.std.specs.Prelude.{All, ◌↔◌}
 use Rattle.mt_catalog.specs.Rules.{IsColumn}
 use Rattle.mt_catalog.proofs.rules.all_columns.Given as goal

@@ -1,5 +1,5 @@
 -- What is left decides.
-use Rattle.std.proofs.Common.{ℕ, length}
+use Rattle.std.proofs.Common.{length}
 use Rattle.std.specs.Prelude.{◌↔◌, map}
 use Rattle.mt_catalog.specs.Rules.{AreApart}
 use Rattle.mt_catalog.proofs.rules.bases_are_apart.Given as goal

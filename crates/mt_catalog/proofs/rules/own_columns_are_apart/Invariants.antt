@@ -1,5 +1,5 @@
 -- What is left decides.
-use Rattle.std.proofs.Common.{ℕ, length}
+use Rattle.std.proofs.Common.{length}
 use Rattle.std.specs.Prelude.{◌↔◌}
 use Rattle.mt_catalog.specs.Rules.{AreApart, column_names}
 use Rattle.mt_catalog.proofs.rules.own_columns_are_apart.Given as goal

@@ -1,5 +1,5 @@
 -- What was added and what is left are all.
-use Rattle.std.proofs.Common.{◌≡◌, ℕ, ◌++◌, length}
+use Rattle.std.proofs.Common.{◌≡◌, ◌++◌, length}
 use Rattle.mt_catalog.proofs.tenant_rules.add_columns.Given as goal
 
 abbrev pub invariant-loop-first : goal.invariant-loop-first

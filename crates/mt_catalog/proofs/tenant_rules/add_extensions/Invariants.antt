@@ -1,5 +1,5 @@
 -- What was added and what is left are all.
-use Rattle.std.proofs.Common.{◌≡◌, ℕ, ◌++◌, length}
+use Rattle.std.proofs.Common.{◌≡◌, ◌++◌, length}
 use Rattle.std.specs.Prelude.{flat_map, slice_get}
 use Rattle.mt_catalog.specs.State.{extension_columns}
 use Rattle.mt_catalog.proofs.tenant_rules.add_extensions.Given as goal

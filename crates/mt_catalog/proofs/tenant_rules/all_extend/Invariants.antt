@@ -1,5 +1,5 @@
 -- What is left decides.
-use Rattle.std.proofs.Common.{ℕ, length}
+use Rattle.std.proofs.Common.{length}
 use Rattle.std.specs.Prelude.{All, ◌↔◌}
 use Rattle.mt_catalog.specs.Clauses.{Extends}
 use Rattle.mt_catalog.proofs.tenant_rules.all_extend.Given as goal

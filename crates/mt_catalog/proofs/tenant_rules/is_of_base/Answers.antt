@@ -1,5 +1,5 @@
 -- Both parts.
-use Rattle.std.proofs.Common.{◌≡◌, refl, sym}
+use Rattle.std.proofs.Common.{refl, sym}
 use Rattle.std.proofs.lemmas.List.Elements.{All-same}
 use Rattle.mt_catalog.specs.Clauses.{Extends}
 use Rattle.mt_catalog.proofs.tenant_rules.is_of_base.Goals as goal

@@ -4,7 +4,6 @@ use Rattle.std.specs.Prelude.{slice_get}
 use Rattle.std.proofs.lemmas.Bool.Decides.{Decides-like}
 use Rattle.mt_tree.specs.declared.schema.Column.{Column}
 use Rattle.mt_tree.specs.declared.schema.Table.{Table}
-use Rattle.mt_catalog.specs.declared.state.Extension.{Extension}
 use Rattle.mt_catalog.specs.State.{State, base_columns, extended_columns}
 use Rattle.mt_catalog.proofs.Judged.{table_kept}
 use Rattle.mt_catalog.proofs.tenant_rules.is_tenant_table.Goals as goal

@@ -1,5 +1,5 @@
 -- A quota above what is left is more than what is left of all.
-use Rattle.std.proofs.Common.{◌≡◌, ◌+◌, ◌∷◌, ap, ◌∙◌, arith}
+use Rattle.std.proofs.Common.{◌≡◌, ◌∷◌, ap, ◌∙◌, arith}
 use Rattle.std.specs.Prelude.{List, sum_by}
 use Rattle.std.specs.Map.Iter.{deref}
 use Rattle.std.proofs.lemmas.Bool.{false≢true}
