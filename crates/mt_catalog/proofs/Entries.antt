@@ -209,9 +209,9 @@ pub all_said : (bodies : List (ℕ × List ℕ)) (entries : List (CatKey × CatS
 all_said bodies entries size front =
     same_members (map (λ body. says body.0 body.1) bodies) (map (λ entry. Some entry.1) entries)
     (length-map bodies (λ body. says body.0 body.1) ∙ sym size ∙ sym (length-map entries (λ entry. Some entry.1))) (λ n x y e f.
-        let body = from_mapped (λ body. says body.0 body.1) bodies n x e in
-        let entry = from_mapped (λ (entry : CatKey × CatSlot). Some entry.1) entries n y f in
-        let said = front n entry.0 entry.1 in
-        let both : Some body.0 ≡ Some said.0 = sym body.1 ∙ said.1 in
-        let same : body.0 ≡ said.0 = cc in
-        sym body.2 ∙ ap (λ (body : ℕ × List ℕ). says body.0 body.1) same ∙ said.2 ∙ entry.2)
+    let body = from_mapped (λ body. says body.0 body.1) bodies n x e in
+    let entry = from_mapped (λ (entry : CatKey × CatSlot). Some entry.1) entries n y f in
+    let said = front n entry.0 entry.1 in
+    let both : Some body.0 ≡ Some said.0 = sym body.1 ∙ said.1 in
+    let same : body.0 ≡ said.0 = cc in
+    sym body.2 ∙ ap (λ (body : ℕ × List ℕ). says body.0 body.1) same ∙ said.2 ∙ entry.2)

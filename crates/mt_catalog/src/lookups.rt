@@ -33,11 +33,14 @@ pub(crate) fn column_at(
 ) -> Result<Option<Column>, AllocError>
     ensures { IfOk result (λ column. column ≡ column_found (slot_in slots.now.entries (keys.Column class number position))) }
 {
-    match slot_at(slots, CatKey::Column {
-        class,
-        number,
-        position,
-    }) {
+    match slot_at(
+        slots,
+        CatKey::Column {
+            class,
+            number,
+            position,
+        },
+    ) {
         Some(
             CatSlot::Column {
                 kind,
@@ -80,11 +83,14 @@ pub(crate) fn placement_at(slots: &SlotMap, tenant: u32, base: u32) -> Option<(u
 pub(crate) fn extended_at(slots: &SlotMap, tenant: u32, base: u32, position: u32) -> Option<u32>
     ensures { result ≡ extended_found (slot_in slots.now.entries (keys.Extended tenant base position)) }
 {
-    match slot_at(slots, CatKey::Extended {
-        tenant,
-        base,
-        position,
-    }) {
+    match slot_at(
+        slots,
+        CatKey::Extended {
+            tenant,
+            base,
+            position,
+        },
+    ) {
         Some(CatSlot::Extended { extension, .. }) => Some(*extension),
         _ => None,
     }
@@ -100,12 +106,15 @@ pub(crate) fn field_at(
 ) -> Option<(Shape, u8, u8)>
     ensures { result ≡ field_found (slot_in slots.now.entries (keys.Field tenant base generation column)) }
 {
-    match slot_at(slots, CatKey::Field {
-        tenant,
-        base,
-        generation,
-        column,
-    }) {
+    match slot_at(
+        slots,
+        CatKey::Field {
+            tenant,
+            base,
+            generation,
+            column,
+        },
+    ) {
         Some(
             CatSlot::Field {
                 shape,

@@ -17,12 +17,7 @@ use mt_tree::Table;
 use std::alloc::Global;
 
 /// The extensions of a tenant's table.
-fn read_numbers(
-    alloc: Global,
-    slots: &SlotMap,
-    tenant: u32,
-    base: u32,
-) -> Result<Numbers, CatFault>
+fn read_numbers(alloc: Global, slots: &SlotMap, tenant: u32, base: u32) -> Result<Numbers, CatFault>
     ensures ok { IfOk result (λ numbers. AreFoundNumbers (slot_in slots.now.entries) tenant base numbers) }
     ensures few { IfOk result (λ numbers. length numbers ≤ 32) }
     ensures damaged { IsErrOf result CatFault.Damaged → IsOfNone (slot_in slots.now.entries) }
@@ -66,12 +61,7 @@ fn widths_of(extensions: &List<Extension>, numbers: &[u32]) -> u32
 }
 
 /// How many columns a tenant's table of a base table has that has these extensions.
-fn width_among(
-    bases: &List<Table>,
-    extensions: &List<Extension>,
-    base: u32,
-    numbers: &[u32],
-) -> u32
+fn width_among(bases: &List<Table>, extensions: &List<Extension>, base: u32, numbers: &[u32]) -> u32
     requires there { base < length bases.now }
     requires small { AreSmallBases bases.now }
     requires narrow { AreNarrow extensions.now }

@@ -11,4 +11,4 @@ pub returns-in_err-shapes-clause-damaged : goal.returns-in_err-shapes-clause-dam
 returns-in_err-shapes-clause-damaged c damaged state is =
     let some : IsSome (shape_found c.as_slice.result.now 16) = c.in_err-shapes.ensures.damaged (first_of (search rules, grind arith)) in
     too_many_chunks (slot_in c.args.slots.now.entries) c.args.tenant c.args.base c.args.generation c.args.columns c.in_ok-fields.fields c.in_ok-fields.ensures
-        (subst (λ (of : List (Option (Shape × ℕ × ℕ))). IsSome (shape_found of 16)) c.as_slice.ensures some) state is
+    (subst (λ (of : List (Option (Shape × ℕ × ℕ))). IsSome (shape_found of 16)) c.as_slice.ensures some) state is
