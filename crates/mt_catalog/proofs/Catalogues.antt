@@ -1,24 +1,21 @@
 -- A catalogue that keeps the rules is found by its slots.
-use Rattle.std.proofs.Common.{◌≡◌, ℕ, ◌≤◌, Bool, true, false, cond, List, [], ◌∷◌, length, map, Option, None, Some, refl, sym, ap, ◌∙◌, subst, arith}
-use Rattle.std.specs.Prelude.{slice_get, option_map, All}
+use Rattle.std.proofs.Common.{◌≡◌, ℕ, List, length, Option, None, Some, refl, ap, ◌∙◌, arith}
+use Rattle.std.specs.Prelude.{slice_get, option_map}
 use Rattle.std.specs.FinMap as finite
-use Rattle.std.proofs.lemmas.Option.{slice_get_past, slice_get_within}
+use Rattle.std.proofs.lemmas.Option.{slice_get_past}
 use Rattle.mt_tree.specs.declared.schema.Column.{Column}
 use Rattle.mt_tree.specs.declared.schema.Table.{Table}
-use Rattle.mt_fold.specs.declared.fold.Placement.{Placement}
 use Rattle.mt_catslot.specs.declared.slot.Class.{Class}
 use Rattle.mt_catslot.specs.declared.slot.Class.TheVariants as classes
-use Rattle.mt_catslot.specs.declared.slot.Motion.{Motion}
-use Rattle.mt_catslot.specs.declared.slot.CatSlot.{CatSlot}
 use Rattle.mt_catslot.specs.declared.slot.CatSlot.TheVariants as slots
 use Rattle.mt_catslot.specs.declared.slot.CatKey.TheVariants as keys
 use Rattle.mt_catalog.specs.declared.state.Extension.{Extension}
 use Rattle.mt_catalog.specs.declared.state.TenantEntry.{TenantEntry}
 use Rattle.mt_catalog.specs.declared.state.TenantTable.{TenantTable}
 use Rattle.mt_catalog.specs.State.{State, base_columns, extension_columns, extended_columns, table_in, tenant_table}
-use Rattle.mt_catalog.specs.Slots.{class_columns, extended_slot, field_slot, motion_of, placement_slot, slot_of}
-use Rattle.mt_catalog.specs.Rules.{IsCatalogue, IsTenantTable}
-use Rattle.mt_catalog.specs.Found.{AreFoundColumns, Found, IsFound, IsFoundBase, IsFoundEntry, IsFoundExtension, IsFoundTable, IsFoundTenant, IsOf, column_found, extended_found, placement_found, relation_found, tenant_found}
+use Rattle.mt_catalog.specs.Slots.{class_columns, extended_slot, field_slot, placement_slot}
+use Rattle.mt_catalog.specs.Rules.{IsTenantTable}
+use Rattle.mt_catalog.specs.Found.{AreFoundColumns, Found, IsFound, IsFoundBase, IsFoundExtension, IsFoundTable, IsFoundTenant, IsOf, column_found, extended_found, placement_found, relation_found, tenant_found}
 use Rattle.mt_catalog.proofs.Cut.{folds_are_found}
 use Rattle.mt_catalog.proofs.Runs.{own_run}
 

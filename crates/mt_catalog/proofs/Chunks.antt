@@ -1,6 +1,6 @@
 -- A chunk more than a fold that fits has is of no catalogue.
 use Rattle.std.proofs.Common.{◌≡◌, ℕ, zero, suc, ◌-◌, ◌<◌, ◌≤◌, Bool, true, false, cond, List, [], ◌∷◌, length, Option, None, Some, refl, sym, ap, ◌∙◌, subst, arith, eqb-true}
-use Rattle.std.specs.Prelude.{nat_eq, slice_get, option_map, IsSome, is_some, ◌==◌}
+use Rattle.std.specs.Prelude.{nat_eq, slice_get, option_map, IsSome, ◌==◌}
 use Rattle.std.specs.FinMap as finite
 use Rattle.std.proofs.lemmas.Option.{slice_get_within}
 use Rattle.mt_tree.specs.declared.schema.Column.{Column}
@@ -11,7 +11,6 @@ use Rattle.mt_fold.specs.declared.fold.Placement.{Placement}
 use Rattle.mt_fold.specs.declared.fold.Placement.TheVariants.{Settled, Moving}
 use Rattle.mt_fold.specs.declared.shape.Shape.{Shape}
 use Rattle.mt_fold.specs.Placements.{IsValidPlacement}
-use Rattle.mt_catslot.specs.declared.slot.CatSlot.TheVariants as slots
 use Rattle.mt_catslot.specs.declared.slot.CatKey.TheVariants as keys
 use Rattle.mt_catalog.specs.declared.state.TenantEntry.{TenantEntry}
 use Rattle.mt_catalog.specs.declared.state.TenantTable.{TenantTable}

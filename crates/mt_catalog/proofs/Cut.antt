@@ -1,8 +1,8 @@
 -- A fold that fits is found by the slots of its columns.
-use Rattle.std.proofs.Common.{◌≡◌, ◌⊎◌, inl, inr, ℕ, zero, suc, ◌-◌, ◌<◌, ◌≤◌, Bool, true, false, cond, List, [], ◌∷◌, length, map, Option, None, Some, refl, sym, ap, ◌∙◌, subst, arith, eqb-true, eq-eqb}
+use Rattle.std.proofs.Common.{◌≡◌, ℕ, zero, suc, ◌-◌, ◌≤◌, Bool, true, false, cond, List, [], ◌∷◌, length, map, Option, None, Some, refl, sym, ap, ◌∙◌, arith, eqb-true, eq-eqb}
 use Rattle.std.specs.Prelude.{slice_get, option_map, nat_eq, ◌==◌}
 use Rattle.std.proofs.lemmas.List.{length-map}
-use Rattle.std.proofs.lemmas.Option.{slice_get-map, slice_get_past, slice_get_within}
+use Rattle.std.proofs.lemmas.Option.{slice_get-map, slice_get_within}
 use Rattle.mt_tree.specs.declared.schema.Column.{Column}
 use Rattle.mt_fold.specs.declared.fold.Fold.{Fold}
 use Rattle.mt_fold.specs.declared.fold.Place.{Place}
@@ -12,12 +12,11 @@ use Rattle.mt_fold.specs.declared.fold.Placement.TheVariants.{Settled, Moving}
 use Rattle.mt_fold.specs.declared.shape.Shape.{Shape}
 use Rattle.mt_fold.specs.Folds.{IsValidFold}
 use Rattle.mt_fold.specs.Placements.{IsValidPlacement}
-use Rattle.mt_catslot.specs.declared.slot.CatSlot.{CatSlot}
 use Rattle.mt_catslot.specs.declared.slot.CatSlot.TheVariants as slots
 use Rattle.mt_catslot.specs.declared.slot.CatKey.TheVariants as keys
 use Rattle.mt_catalog.specs.Slots.{column_in_fold, fold_of, placed_slot}
-use Rattle.mt_catalog.specs.Found.{AreFoundFields, AreFoundFolds, Found, IsFoundFold, IsRunOf, field_found, place_found, shape_found}
-use Rattle.mt_catalog.proofs.Runs.{own_run, past, present, same_members}
+use Rattle.mt_catalog.specs.Found.{AreFoundFolds, Found, IsFoundFold, field_found, place_found, shape_found}
+use Rattle.mt_catalog.proofs.Runs.{own_run, present, same_members}
 
 -- the field in which a column lies at a place
 abbrev pub field_at : List Shape → Place → Option (Shape × ℕ × ℕ)

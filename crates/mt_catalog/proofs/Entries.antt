@@ -1,6 +1,6 @@
 -- Bodies and the entries of what they say: of which catalogue they are, and where they are of none.
-use Rattle.std.proofs.Common.{◌≡◌, ◌⊎◌, inl, inr, ℕ, zero, suc, ◌<◌, Bool, true, false, cond, List, [], ◌∷◌, ◌++◌, length, map, Option, None, Some, refl, sym, ap, ◌∙◌, subst, arith}
-use Rattle.std.specs.Prelude.{IsSome, is_some, slice_get, option_map}
+use Rattle.std.proofs.Common.{◌≡◌, inl, inr, ℕ, zero, suc, ◌<◌, Bool, true, false, cond, List, [], ◌∷◌, ◌++◌, length, map, Option, None, Some, refl, sym, ap, ◌∙◌, subst, arith}
+use Rattle.std.specs.Prelude.{IsSome, slice_get, option_map}
 use Rattle.std.proofs.lemmas.List.{length-map}
 use Rattle.std.proofs.lemmas.Option.{slice_get-map, slice_get_within}
 use Rattle.mt_catslot.specs.declared.slot.CatSlot.{CatSlot}
@@ -9,11 +9,10 @@ use Rattle.mt_catslot.specs.Bytes.{says}
 use Rattle.mt_catslot.specs.Slots.{key_of}
 use Rattle.mt_catalog.specs.State.{State}
 use Rattle.mt_catalog.specs.Slots.{HasSlot, slot_of}
-use Rattle.mt_catalog.specs.Rules.{IsCatalogue}
 use Rattle.mt_catalog.specs.Keyed.{same_key, slot_in}
 use Rattle.mt_catalog.specs.Entries.{AreEntriesOf, AreKeyed}
-use Rattle.mt_catalog.specs.Found.{IsOf, IsOfNone}
-use Rattle.mt_catalog.specs.Reading.{In, IsDamagedCatalogue, NoRepeat, ReadAs, SayCatalogue}
+use Rattle.mt_catalog.specs.Found.{IsOfNone}
+use Rattle.mt_catalog.specs.Reading.{In, IsDamagedCatalogue, NoRepeat, SayCatalogue}
 use Rattle.mt_catalog.proofs.ByKey.{key_is, other_key, own_key}
 use Rattle.mt_catalog.proofs.Keys.{own_key as had_key}
 use Rattle.mt_catalog.proofs.Cut.{from_mapped}

@@ -1,10 +1,9 @@
 -- More extensions of a table than it has columns are of no catalogue.
-use Rattle.std.proofs.Common.{◌≡◌, ℕ, ◌+◌, ◌<◌, ◌≤◌, List, [], ◌∷◌, ◌++◌, length, Option, None, Some, refl, sym, ap, ◌∙◌, subst, arith}
+use Rattle.std.proofs.Common.{◌≡◌, ℕ, ◌≤◌, List, [], ◌∷◌, length, Option, None, Some, refl, sym, ap, ◌∙◌, arith}
 use Rattle.std.specs.Prelude.{All, flat_map, slice_get, option_map}
 use Rattle.std.proofs.lemmas.List.{length-append}
 use Rattle.std.proofs.lemmas.List.Elements.{All-head, All-tail}
 use Rattle.std.proofs.lemmas.Option.{slice_get_past}
-use Rattle.mt_tree.specs.declared.schema.Column.{Column}
 use Rattle.mt_catslot.specs.declared.slot.CatSlot.TheVariants as slots
 use Rattle.mt_catslot.specs.declared.slot.CatKey.TheVariants as keys
 use Rattle.mt_catalog.specs.declared.state.Extension.{Extension}

@@ -1,5 +1,5 @@
 -- A table that moves from a generation that there is not is of no catalogue.
-use Rattle.std.proofs.Common.{◌≡◌, ℕ, ◌<◌, ◌≤◌, List, Option, None, Some, refl, sym, ap, ◌∙◌, subst, arith}
+use Rattle.std.proofs.Common.{◌≡◌, ℕ, ◌<◌, ◌≤◌, List, Option, None, Some, refl, sym, ap, ◌∙◌, arith}
 use Rattle.mt_fold.specs.declared.fold.Placement.{Placement}
 use Rattle.mt_fold.specs.declared.fold.Placement.TheVariants as placements
 use Rattle.mt_fold.specs.Placements.{IsValidPlacement}
@@ -8,9 +8,9 @@ use Rattle.mt_catslot.specs.declared.slot.Motion.{Motion}
 use Rattle.mt_catslot.specs.declared.slot.Motion.TheVariants as motions
 use Rattle.mt_catslot.specs.declared.slot.CatKey.TheVariants as keys
 use Rattle.mt_catalog.specs.declared.state.TenantTable.{TenantTable}
-use Rattle.mt_catalog.specs.State.{State, base_columns, extended_columns, tenant_table}
+use Rattle.mt_catalog.specs.State.{tenant_table}
 use Rattle.mt_catalog.specs.Slots.{motion_of, placement_slot}
-use Rattle.mt_catalog.specs.Found.{Found, IsOf, IsOfNone, placement_found}
+use Rattle.mt_catalog.specs.Found.{Found, IsOfNone, placement_found}
 use Rattle.mt_catalog.proofs.Chunks.{table_keeps}
 
 -- the generation from which a table moves

@@ -1,6 +1,6 @@
 -- What a catalogue has by a key has this key, so that catalogues with the same slots have the same by each key.
-use Rattle.std.proofs.Common.{◌≡◌, ◌⊎◌, inl, inr, ℕ, Option, None, Some, refl, sym, ap, ◌∙◌, subst, arith, Bool, true, false, cond}
-use Rattle.std.specs.Prelude.{List, ◌-◌, nat_eq, option_map, slice_get}
+use Rattle.std.proofs.Common.{◌≡◌, ℕ, Option, None, Some, refl, sym, ap, ◌∙◌, subst}
+use Rattle.std.specs.Prelude.{List, option_map, slice_get}
 use Rattle.mt_fold.specs.declared.fold.Fold.{Fold}
 use Rattle.mt_fold.specs.declared.fold.Place.{Place}
 use Rattle.mt_fold.specs.declared.fold.Place.TheVariants.{Conv, Field}
@@ -13,8 +13,8 @@ use Rattle.mt_catslot.specs.Slots.{key_of}
 use Rattle.mt_catalog.specs.declared.state.TenantTable.{TenantTable}
 use Rattle.std.specs.FinMap as finite
 use Rattle.mt_catalog.specs.State.{State, tenant_table}
-use Rattle.mt_catalog.specs.Slots.{HasSlot, class_columns, column_in_fold, extended_slot, field_slot, fold_of, placed_slot, placement_slot, shaped_slot, slot_of}
-use Rattle.mt_catalog.specs.Reading.{In, ReadAs}
+use Rattle.mt_catalog.specs.Slots.{class_columns, column_in_fold, extended_slot, field_slot, fold_of, placed_slot, slot_of}
+use Rattle.mt_catalog.specs.Reading.{ReadAs}
 
 -- what is made of a member has the key that each such has
 mapped_key : {A : Type 0} (f : A → CatSlot) (key : CatKey) → ((x : A) → key_of (f x) ≡ key) → (o : Option A) (slot : CatSlot) → option_map f o ≡ Some slot → key_of slot ≡ key

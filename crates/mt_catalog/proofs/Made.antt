@@ -1,8 +1,7 @@
 -- A slot of the catalogue that is made of what is found is found, and none that keeps the rules has more than the limits.
-use Rattle.std.proofs.Common.{◌≡◌, ◌⊎◌, inl, inr, ℕ, ◌-◌, ◌<◌, ◌≤◌, Bool, true, false, cond, List, [], ◌∷◌, length, map, Option, None, Some, refl, sym, ap, ◌∙◌, subst, arith, eqb-true}
+use Rattle.std.proofs.Common.{◌≡◌, ℕ, ◌-◌, Bool, true, false, cond, Option, None, Some, refl, sym, ap, ◌∙◌, subst, eqb-true}
 use Rattle.std.specs.Prelude.{nat_eq, option_map, slice_get}
 use Rattle.std.specs.FinMap as finite
-use Rattle.std.proofs.lemmas.Option.{slice_get-map}
 use Rattle.mt_tree.specs.declared.schema.Column.{Column}
 use Rattle.mt_tree.specs.declared.schema.Table.{Table}
 use Rattle.mt_fold.specs.declared.fold.Fold.{Fold}
@@ -21,7 +20,7 @@ use Rattle.mt_catalog.specs.declared.state.TenantEntry.{TenantEntry}
 use Rattle.mt_catalog.specs.declared.state.TenantTable.{TenantTable}
 use Rattle.mt_catalog.specs.State.{State, base_columns, extension_columns, table_in, tenant_table}
 use Rattle.mt_catalog.specs.Slots.{column_in_fold, extended_slot, field_slot, fold_of, placed_slot, placement_slot, slot_of}
-use Rattle.mt_catalog.specs.Found.{AreFoundColumns, AreFoundFolds, Found, IsFound, IsFoundFold, IsFoundTable, IsFoundTenant, column_found, extended_found, field_found, place_found, placement_found, relation_found, tenant_found}
+use Rattle.mt_catalog.specs.Found.{AreFoundFolds, Found, IsFound, IsFoundFold, IsFoundTable, IsFoundTenant, column_found, extended_found, field_found, place_found, placement_found, relation_found, tenant_found}
 use Rattle.mt_catalog.proofs.Cut.{from_mapped}
 
 -- a slot is found by this key

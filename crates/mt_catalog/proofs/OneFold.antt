@@ -1,6 +1,5 @@
 -- Folds that are found are determined.
-use Rattle.std.proofs.Common.{◌≡◌, ℕ, ◌-◌, List, [], ◌∷◌, length, map, Option, None, Some, refl, sym, ap, ◌∙◌, subst, arith}
-use Rattle.std.specs.Prelude.{slice_get}
+use Rattle.std.proofs.Common.{◌≡◌, ℕ, ◌-◌, List, map, Option, sym, ap, ◌∙◌, subst}
 use Rattle.mt_fold.specs.declared.fold.Fold.{Fold}
 use Rattle.mt_fold.specs.declared.fold.Place.{Place}
 use Rattle.mt_fold.specs.declared.fold.Placement.{Placement}

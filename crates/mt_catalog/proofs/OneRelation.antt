@@ -1,6 +1,5 @@
 -- Base tables and extensions that are found are determined.
-use Rattle.std.proofs.Common.{◌≡◌, ℕ, List, [], ◌∷◌, length, Option, None, Some, refl, sym, ap, ◌∙◌, subst, arith}
-use Rattle.std.specs.Prelude.{slice_get}
+use Rattle.std.proofs.Common.{◌≡◌, ℕ, List, [], Option, None, Some, sym, ap, ◌∙◌}
 use Rattle.mt_tree.specs.declared.schema.Column.{Column}
 use Rattle.mt_tree.specs.declared.schema.Table.{Table}
 use Rattle.mt_catslot.specs.declared.slot.Class.TheVariants as classes

@@ -1,9 +1,9 @@
 -- Tenants and tables that no catalogue has, and the map of the tenants that were found.
-use Rattle.std.proofs.Common.{◌≡◌, ℕ, ◌<◌, ◌≤◌, Bool, true, false, cond, ◌||◌, List, [], ◌∷◌, length, Option, None, Some, refl, sym, ap, ◌∙◌, subst, arith, eqb-true}
-use Rattle.std.specs.Prelude.{IsSome, is_some, nat_eq, option_map, slice_get}
+use Rattle.std.proofs.Common.{◌≡◌, ℕ, ◌<◌, Bool, true, false, cond, ◌||◌, List, [], ◌∷◌, length, Option, None, Some, refl, sym, ap, ◌∙◌, subst, arith, eqb-true}
+use Rattle.std.specs.Prelude.{IsSome, is_some, nat_eq, option_map}
 use Rattle.std.specs.List.{list_any}
 use Rattle.std.specs.Map.{keys_of, lookup}
-use Rattle.std.specs.Ordering.{eq_by_cmp, nat_cmp}
+use Rattle.std.specs.Ordering.{nat_cmp}
 use Rattle.std.specs.Cmp.{nat_cmp_total, nat_eq_equiv, unsigned_tied}
 use Rattle.std.specs.FinMap as finite
 use Rattle.mt_tree.specs.declared.schema.Table.{Table}
@@ -12,9 +12,9 @@ use Rattle.mt_catslot.specs.declared.slot.CatSlot.TheVariants as slots
 use Rattle.mt_catslot.specs.declared.slot.CatKey.{CatKey}
 use Rattle.mt_catslot.specs.declared.slot.CatKey.TheVariants as keys
 use Rattle.mt_catalog.specs.declared.state.TenantEntry.{TenantEntry}
-use Rattle.mt_catalog.specs.State.{State, table_in, tenant_table}
+use Rattle.mt_catalog.specs.State.{table_in, tenant_table}
 use Rattle.mt_catalog.specs.Slots.{placement_slot}
-use Rattle.mt_catalog.specs.Found.{AreFoundBases, Found, IsOf, IsOfNone, placement_found, tenant_found}
+use Rattle.mt_catalog.specs.Found.{AreFoundBases, Found, IsOfNone, placement_found, tenant_found}
 use Rattle.mt_catalog.specs.Keyed.{same_key, slot_in}
 use Rattle.mt_catalog.proofs.Catalogues.{catalogue_is_found}
 use Rattle.mt_catalog.proofs.OneRelation.{one_bases}

@@ -1,5 +1,5 @@
 -- The slots that bodies say, as entries by their keys.
-use Rattle.std.specs.Prelude.{◌≡◌, ℕ, List, [], ◌∷◌, map, Option, None, Some}
+use Rattle.std.specs.Prelude.{◌≡◌, ℕ, List, [], ◌∷◌, map, None, Some}
 use Rattle.mt_catslot.specs.declared.slot.CatSlot.{CatSlot}
 use Rattle.mt_catslot.specs.declared.slot.CatKey.{CatKey}
 use Rattle.mt_catslot.specs.Bytes.{says}

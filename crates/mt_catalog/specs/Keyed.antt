@@ -1,5 +1,5 @@
 -- Slots by their keys.
-use Rattle.std.specs.Prelude.{◌≡◌, ℕ, ◌==◌, ◌&&◌, Bool, true, false, if◌then◌else◌, List, [], ◌∷◌, Option, None, Some}
+use Rattle.std.specs.Prelude.{◌==◌, ◌&&◌, Bool, true, false, if◌then◌else◌, List, [], ◌∷◌, Option, None, Some}
 use Rattle.mt_catslot.specs.declared.slot.Class.{Class}
 use Rattle.mt_catslot.specs.declared.slot.Class.TheVariants as classes
 use Rattle.mt_catslot.specs.declared.slot.CatSlot.{CatSlot}

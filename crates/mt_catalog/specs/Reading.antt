@@ -1,5 +1,5 @@
 -- When slots of the disk read as a catalogue.
-use Rattle.std.specs.Prelude.{◌≡◌, ◌↔◌, ◌⊎◌, ℕ, List, [], ◌∷◌, map, Option, Some}
+use Rattle.std.specs.Prelude.{◌≡◌, ◌↔◌, ◌⊎◌, ℕ, List, [], ◌∷◌, map, Some}
 use Rattle.mt_catslot.specs.declared.slot.CatSlot.{CatSlot}
 use Rattle.mt_catslot.specs.Bytes.{says}
 use Rattle.mt_catalog.specs.State.{State}

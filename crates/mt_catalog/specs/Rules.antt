@@ -1,5 +1,5 @@
 -- The rules of a catalogue, beside those that its slots keep by what they are.
-use Rattle.std.specs.Prelude.{◌≡◌, ℕ, ◌<◌, ◌≤◌, ◌^◌, IsTrue, Bool, false, List, ◌++◌, length, map, All, slice_get, sum_by, Some}
+use Rattle.std.specs.Prelude.{◌≡◌, ℕ, ◌<◌, ◌≤◌, ◌^◌, IsTrue, false, List, ◌++◌, length, map, All, slice_get, sum_by, Some}
 use Rattle.std.specs.FinMap as finite
 use Rattle.std.specs.List.{IsDistinct}
 use Rattle.std.specs.Str.{bytes_eq}

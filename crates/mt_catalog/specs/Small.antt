@@ -1,5 +1,5 @@
 -- Base tables and extensions of which there are few columns.
-use Rattle.std.specs.Prelude.{ℕ, ◌≤◌, List, length, All}
+use Rattle.std.specs.Prelude.{◌≤◌, List, length, All}
 use Rattle.mt_tree.specs.declared.schema.Table.{Table}
 use Rattle.mt_catalog.specs.declared.state.Extension.{Extension}
 

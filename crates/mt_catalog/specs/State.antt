@@ -1,6 +1,6 @@
 -- The catalogue as a value: the base tables and extensions in the order of their creation, and what is
 -- kept of each tenant.
-use Rattle.std.specs.Prelude.{◌≡◌, ℕ, List, [], ◌++◌, flat_map, map, slice_get, sum_by, Option, None, Some}
+use Rattle.std.specs.Prelude.{ℕ, List, [], ◌++◌, flat_map, slice_get, Option, None, Some}
 use Rattle.std.specs.Ordering.{nat_cmp}
 use Rattle.std.specs.FinMap as finite
 use Rattle.mt_tree.specs.declared.schema.Column.{Column}

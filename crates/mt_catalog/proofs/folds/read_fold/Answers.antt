@@ -1,5 +1,5 @@
 -- A seventeenth chunk is of no catalogue.
-use Rattle.std.proofs.Common.{◌≡◌, ℕ, List, Option, subst, rules, arith}
+use Rattle.std.proofs.Common.{ℕ, List, Option, subst, rules, arith}
 use Rattle.std.specs.Prelude.{IsSome}
 use Rattle.mt_fold.specs.declared.shape.Shape.{Shape}
 use Rattle.mt_catalog.specs.Found.{shape_found}

@@ -1,5 +1,5 @@
 -- What is left decides.
-use Rattle.std.proofs.Common.{◌≡◌, ℕ, length}
+use Rattle.std.proofs.Common.{◌≡◌, length}
 use Rattle.mt_catalog.specs.Found.{shape_found}
 use Rattle.mt_catalog.proofs.folds.shape_at.Given as goal
 

@@ -1,6 +1,5 @@
 -- The tenants as a finite map.
-use Rattle.std.proofs.Common.{◌≡◌, ℕ, Option, sym, subst}
-use Rattle.mt_catalog.specs.declared.state.TenantEntry.{TenantEntry}
+use Rattle.std.proofs.Common.{sym, subst}
 use Rattle.mt_catalog.specs.Found.{IsFoundTenant}
 use Rattle.mt_catalog.specs.Keyed.{slot_in}
 use Rattle.mt_catalog.proofs.Tenancies.{finite_lookup}

@@ -1,5 +1,5 @@
 -- The slot of one body more; a body that says none, or one with a key that stands already, is of no catalogue.
-use Rattle.std.proofs.Common.{◌≡◌, ◌∙◌, ℕ, ◌+◌, ◌<◌, ◌≤◌, All, List, [], ◌∷◌, ◌++◌, length, get_or, Option, None, Some, refl, sym, ap, subst, rules, arith}
+use Rattle.std.proofs.Common.{◌≡◌, ◌∙◌, ℕ, ◌<◌, ◌≤◌, All, List, [], ◌∷◌, ◌++◌, length, get_or, Some, sym, ap, subst, rules, arith}
 use Rattle.std.specs.Prelude.{slice_get}
 use Rattle.std.proofs.lemmas.List.{length-append}
 use Rattle.std.proofs.lemmas.Option.{slice_get-get_or}
@@ -10,7 +10,7 @@ use Rattle.mt_catslot.specs.Slots.{key_of}
 use Rattle.mt_catslot.specs.declared.slot.CatKey.{CatKey}
 use Rattle.mt_catslot.specs.declared.slot.CatSlot.{CatSlot}
 use Rattle.mt_catalog.specs.Entries.{AreKeyed}
-use Rattle.mt_catalog.proofs.Entries.{AreFront, SaysAt, all_said, key_repeated, keyed_pushed, silent_body}
+use Rattle.mt_catalog.proofs.Entries.{SaysAt, all_said, key_repeated, keyed_pushed, silent_body}
 use Rattle.mt_catalog.proofs.Runs.{run_pushed}
 use Rattle.mt_catalog.proofs.slot_map.read_slots.Goals as goal
 

@@ -1,9 +1,6 @@
 -- By the test of keys.
-use Rattle.std.proofs.Common.{◌≡◌, ◌∙◌, refl}
-use Rattle.mt_catalog.specs.Keyed.{slot_in}
-use Rattle.mt_catslot.specs.declared.slot.CatKey.TheVariants as keys
+use Rattle.std.proofs.Common.{◌∙◌}
 use Rattle.mt_catalog.proofs.ByKey.{derived_same, looked_up}
-use Rattle.mt_catalog.proofs.Made.{found_alone}
 use Rattle.mt_catalog.proofs.slot_map.slot_at.Goals as goal
 
 pub returns : goal.returns

@@ -1,5 +1,5 @@
 -- The columns of the extensions so far.
-use Rattle.std.proofs.Common.{◌≡◌, ℕ, ◌*◌, ◌≤◌, length, take}
+use Rattle.std.proofs.Common.{◌≡◌, ◌*◌, ◌≤◌, length, take}
 use Rattle.std.specs.Prelude.{flat_map, slice_get}
 use Rattle.mt_catalog.specs.State.{extension_columns}
 use Rattle.mt_catalog.proofs.tenants.widths_of.Given as goal
