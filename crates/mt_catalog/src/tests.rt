@@ -4,7 +4,7 @@ use crate::tests::Line::{Column, Extended, Extension, Field, Placement, Table, T
 use crate::{CatFault, Catalog, read_catalog};
 use indexmap::IndexMap;
 use mt_catslot::{CatSlot, Class, Motion};
-use mt_fold::{Place, Shape};
+use mt_fold::{Fold, Place, Shape};
 use mt_list::List;
 use mt_tree::Kind;
 use mt_value::{Str, StrFault};
@@ -132,12 +132,10 @@ fn add_lines(alloc: Global, slots: &mut SlotMap, lines: &[Line]) -> Result<bool,
 /// Whether the good lines, without those at these places and with some others, are of a catalogue.
 fn is_read(alloc: Global, without: &[usize], with: &[Line]) -> Result<bool, Fail> {
     let mut slots = IndexMap::new(alloc);
-    let mut at = 0;
-    for line in GOOD {
-        if !without.contains(&at) && !add_lines(alloc, &mut slots, &[line])? {
+    for (at, line) in GOOD.iter().enumerate() {
+        if !without.contains(&at) && !add_lines(alloc, &mut slots, &[*line])? {
             return Ok(false);
         }
-        at += 1;
     }
     if !add_lines(alloc, &mut slots, with)? {
         return Ok(false);
@@ -322,22 +320,35 @@ fn damaged_tenants(rt: HostRuntime) -> Result<(), Fail> {
     Ok(())
 }
 
+/// The old and the new fold of the first table of a tenant, where it moves.
+fn moving_folds(catalog: &Catalog, tenant: u32) -> Option<(&Fold, &Fold)> {
+    match catalog.tenants.get(&tenant) {
+        None => None,
+        Some(entry) => match entry.tables.as_slice().first() {
+            None => None,
+            Some(table) => match &table.placement {
+                mt_fold::Placement::Settled { .. } => None,
+                mt_fold::Placement::Moving { before, after, .. } => Some((before, after)),
+            },
+        },
+    }
+}
+
 #[test]
 fn places_are_read(rt: HostRuntime) -> Result<(), Fail> {
     let alloc = rt.alloc();
     let mut slots = IndexMap::new(alloc);
     assert!(rt; add_lines(alloc, &mut slots, &GOOD)?);
     let catalog = catalog_of(alloc, &slots)?;
-    match catalog.tenants.get(&8) {
+    match moving_folds(&catalog, 8) {
         None => assert!(rt; false),
-        Some(entry) => match &entry.tables.get(0).placement {
-            mt_fold::Placement::Settled { .. } => assert!(rt; false),
-            mt_fold::Placement::Moving { before, after, .. } => {
-                assert_eq!(rt; *before.places.get(1), Place::Conv);
-                assert_eq!(rt; *after.places.get(1), (Place::Field { chunk: 0, field: 0 }));
-                assert_eq!(rt; *after.shapes.get(0), Shape::C2);
-            }
-        },
+        Some((before, after)) => {
+            let kept = [Place::Conv, Place::Conv];
+            let moved = [Place::Conv, Place::Field { chunk: 0, field: 0 }];
+            assert_eq!(rt; before.places.as_slice(), kept.as_slice());
+            assert_eq!(rt; after.places.as_slice(), moved.as_slice());
+            assert_eq!(rt; after.shapes.as_slice(), [Shape::C2].as_slice());
+        }
     }
     Ok(())
 }
