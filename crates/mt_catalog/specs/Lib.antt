@@ -1,0 +1,11 @@
+pub mod Clauses
+pub mod Coded
+pub mod Entries
+pub mod Found
+pub mod Keyed
+pub mod Reading
+pub mod Rules
+pub mod Slots
+pub mod Small
+pub mod State
+pub mod Steps
