@@ -8,4 +8,3 @@ pub mod Rules
 pub mod Slots
 pub mod Small
 pub mod State
-pub mod Steps
