@@ -111,7 +111,10 @@ fn texts_of_folds(rt: HostRuntime) -> Result<(), Fail> {
         ),
     ];
     for (shapes, places, wanted) in cases {
-        assert!(rt; prints(alloc, &ACCOUNT, shapes, &places, wanted)?, "{shapes:?}");
+        assert!(rt;
+            prints(alloc, &ACCOUNT, shapes, &places, wanted)?,
+            "{shapes:?}"
+        );
     }
     assert!(rt; prints(alloc, &[], &[], &[], b"old ")?);
     Ok(())
