@@ -38,7 +38,8 @@ pub fn tokens(alloc: Global, text: &str) -> Result<Tokens, LexFault>
     ensures bad { (at : ℕ) → result ≡ Err (LexFault.Bad at) → HasNoTokenAt text.now at }
 {
     let bytes = text.as_bytes();
-    let mut found = Tokens::new(alloc);
+    // Few texts have more tokens than half their bytes, so the list seldom moves as it grows.
+    let mut found = Tokens::from_vec(Vec::with_capacity(alloc, bytes.len() / 2)?);
     let mut at = 0;
     while at < bytes.len() {
         if let Some(token) = token_at(bytes, at) {

@@ -24,6 +24,7 @@ pub(crate) fn atom(alloc: Global, reader: &mut Reader<'_>) -> Result<Option<Atom
 }
 
 /// Whether one of the reserved words comes first that begin an atom. The reading of a name asks for the others.
+#[inline(always)]
 fn begins_reserved_atom(reader: &Reader<'_>) -> bool
     ensures { result ≡ begins_reserved_atom reader.now }
 {

@@ -4,7 +4,7 @@ use Rattle.mt_lexer.proofs.Tiling.{Reached, Reached-start, Reached-push, Reached
 use Rattle.mt_lexer.proofs.scan.tokens.Goals as goal
 
 pub loop-at-init : goal.loop-at-init
-loop-at-init c = rw c.new-found.ensures (Reached-start c.as_bytes-bytes.result.now)
+loop-at-init c = rw (c.from_vec-found.ensures, c.in_ok-with_capacity.ensures.items) (Reached-start c.as_bytes-bytes.result.now)
 
 pub loop-at-preserved-in-Some : goal.loop-at-preserved-in-Some
 loop-at-preserved-in-Some c =
