@@ -23,8 +23,6 @@ pub use stage::Staged;
 pub use store::{Store, StoreFault};
 
 #[cfg(test)]
-mod commits;
-#[cfg(test)]
 mod lending;
 #[cfg(test)]
 mod tests;
