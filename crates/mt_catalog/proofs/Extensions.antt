@@ -28,7 +28,7 @@ module _ (found : Found) (state : State) (is : IsOf found state) (base : ℕ) wh
       let here : length there.0.columns ≡ length (extension_columns (slice_get state.extensions number)) = ap (λ (o : Option Extension). length (extension_columns o)) (sym there.1) in
       omega (arith, some, rest, here, length-append (extension_columns (slice_get state.extensions number)) (flat_map (λ number. extension_columns (slice_get state.extensions number)) numbers))
 
-  few_numbers : (tenant : ℕ) (table : TenantTable) → tenant_table state tenant base ≡ Some table → length table.extended ≤ 32
+  pub few_numbers : (tenant : ℕ) (table : TenantTable) → tenant_table state tenant base ≡ Some table → length table.extended ≤ 32
   few_numbers tenant table e =
       let kept = table_keeps found state is tenant base table e in
       let fit = numbers_fit table.extended kept.extended in

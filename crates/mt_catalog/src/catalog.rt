@@ -7,9 +7,9 @@ use std::marker::Model;
 /// The catalogue of a disk. Tenants are found by their numbers in constant time.
 #[derive(Debug, Drop)]
 pub struct Catalog {
-    pub(crate) bases: List<Table>,
-    pub(crate) extensions: List<Extension>,
-    pub(crate) tenants: IndexMap<u32, TenantEntry>,
+    pub bases: List<Table>,
+    pub extensions: List<Extension>,
+    pub tenants: IndexMap<u32, TenantEntry>,
 }
 
 impl Model for Catalog {
