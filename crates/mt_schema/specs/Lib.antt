@@ -1,0 +1,5 @@
+pub mod Changed
+pub mod Prepared
+pub mod Refusals
+pub mod Steps
+pub mod Turns

@@ -1,0 +1,72 @@
+ghost use Rattle.std.specs.Prelude.{◌≡◌, IfOk, Err, Some};
+ghost use Rattle.mt_tree.specs.declared.code.Code.{Code as Refusal};
+ghost use Rattle.mt_catalog.specs.Rules.{IsCatalogue};
+ghost use Rattle.mt_schema.specs.declared.prepared.StepFault.TheVariants as faults;
+ghost use Rattle.mt_schema.specs.Prepared.{IsPrepared};
+ghost use Rattle.mt_schema.specs.Refusals.{step_refusal};
+ghost use Rattle.mt_schema.specs.Steps.{IsWellFormed};
+
+use mt_catalog::{CatBodies, Catalog};
+use mt_list::List;
+use mt_tree::{AdminCmd, Code};
+use std::alloc::{AllocError, Global};
+use thiserror::Error;
+
+/// The slots of the catalogue that a step puts and removes, each as its table, from 8 to 13, and its
+/// body. None stands twice, nor in both lists.
+#[derive(Debug, Drop)]
+pub struct CatRows {
+    pub put: CatBodies,
+    pub removed: CatBodies,
+}
+
+/// A schema step that is not refused, with the catalogue after it.
+#[derive(Debug, Drop)]
+pub struct Prepared {
+    pub next: Catalog,
+    pub rows: CatRows,
+}
+
+/// Why a schema step is not prepared.
+#[derive(Clone, Copy, Debug, PartialEq, Eq, Error)]
+pub enum StepFault {
+    #[error("refused")]
+    Refused(Code),
+    #[error("out of memory")]
+    Memory,
+}
+
+impl From<AllocError> for StepFault {
+    ghost use Rattle.std.specs.Prelude.{◌≡◌};
+    ghost use Rattle.mt_schema.specs.declared.prepared.StepFault.TheVariants as faults;
+
+    ghost from_gives = { λ _ fault. fault ≡ faults.Memory };
+
+    fn from(_: AllocError) -> StepFault {
+        StepFault::Memory
+    }
+}
+
+/// Prepares a schema step on a catalogue, where so many rows are kept, visible and trashed, of the
+/// tenant that the step names. `Refused` with the first of E42, E40, E41, E43, E44, E45, E61 and E63
+/// that holds, `Memory` for want of memory; the catalogue is as before in any case.
+pub fn prepare(
+    alloc: Global,
+    catalog: &Catalog,
+    kept: u64,
+    step: &AdminCmd,
+) -> Result<Prepared, StepFault>
+    requires formed { IsWellFormed step.now }
+    requires rules { IsCatalogue catalog.now }
+    ensures prepared { IfOk result (λ prepared. IsPrepared catalog.now kept step.now prepared) }
+    ensures refused { (code : Refusal) → result ≡ Err (faults.Refused code) → step_refusal catalog.now (λ tenant. kept) step.now ≡ Some code }
+{
+    Err(StepFault::Memory)
+}
+
+/// Makes a prepared catalogue the value. It takes no memory.
+pub fn accept(catalog: &mut Catalog, prepared: Prepared)
+    ensures { catalog.new ≡ prepared.next }
+{
+    *catalog = prepared.next;
+}
