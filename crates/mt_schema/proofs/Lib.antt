@@ -1,6 +1,9 @@
+pub mod Asked
 pub mod CanExtend
 pub mod ChangedQuota
 pub mod Changes
+pub mod Copied
+pub mod Counted
 pub mod Defined
 pub mod ExtendedSlots
 pub mod ExtendedTable
@@ -15,6 +18,7 @@ pub mod Numbered
 pub mod Put
 pub mod Quotas
 pub mod Refused
+pub mod Repeats
 pub mod RulesExtend
 pub mod RulesExtension
 pub mod RulesPut

@@ -11,7 +11,7 @@ option_map-cond : {A B : Type 0} (f : A → B) (b : Bool) (x : A) (y : Option A)
 option_map-cond f true x y z e = refl
 option_map-cond f false x y z e = e
 
-find-map : {A B : Type 0} (change : A → B) (n : ℕ) (entries : List (ℕ × A)) → finite.find nat_cmp n (map (λ entry. (entry.0, change entry.1)) entries) ≡ option_map change (finite.find nat_cmp n entries)
+pub find-map : {A B : Type 0} (change : A → B) (n : ℕ) (entries : List (ℕ × A)) → finite.find nat_cmp n (map (λ entry. (entry.0, change entry.1)) entries) ≡ option_map change (finite.find nat_cmp n entries)
 find-map change n [] = refl
 find-map change n (entry ∷ entries) = option_map-cond change (eq_by_cmp nat_cmp n entry.0) entry.1 (finite.find nat_cmp n entries) _ (find-map change n entries)
 

@@ -1,4 +1,5 @@
 pub mod Changed
+pub mod Copies
 pub mod Prepared
 pub mod Refusals
 pub mod Steps
