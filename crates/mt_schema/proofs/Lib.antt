@@ -1,3 +1,4 @@
+pub mod Accepted
 pub mod Asked
 pub mod CanExtend
 pub mod ChangedQuota
@@ -17,6 +18,7 @@ pub mod NewTable
 pub mod Numbered
 pub mod Put
 pub mod Quotas
+pub mod Reached
 pub mod Refused
 pub mod Repeats
 pub mod RulesExtend

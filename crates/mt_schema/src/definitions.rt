@@ -1,4 +1,4 @@
-ghost use Rattle.std.specs.Prelude.{◌≡◌, ◌≤◌, false, true, length, map, IfOk};
+ghost use Rattle.std.specs.Prelude.{◌≡◌, ◌≤◌, false, true, length, map, slice_get, option_copied, IfOk};
 ghost use Rattle.mt_schema.specs.Refusals as refusals;
 ghost use Rattle.mt_schema.specs.Steps as steps;
 
@@ -8,6 +8,17 @@ use mt_list::List;
 use mt_tree::{Column, Columns, Def, DefKind, Kind, Table};
 use mt_value::Str;
 use std::alloc::{AllocError, Global};
+
+/// The member at a number, if there is one.
+pub(crate) fn member<T>(members: &[T], number: usize) -> Option<&T>
+    ensures { option_copied result ≡ slice_get members.now number }
+{
+    if number < members.len() {
+        Some(&members[number])
+    } else {
+        None
+    }
+}
 
 /// Whether a name is one of these.
 pub(crate) fn has_name(names: &[Str], name: &Str) -> bool

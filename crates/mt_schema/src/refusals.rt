@@ -1,4 +1,4 @@
-ghost use Rattle.std.specs.Prelude.{◌≡◌, ℕ, List, ◌++◌, list_all, slice_get, option_copied, IfOk, OnOk};
+ghost use Rattle.std.specs.Prelude.{◌≡◌, ℕ, List, ◌++◌, flat_map, list_all, slice_get, option_copied, IfOk, OnOk};
 ghost use Rattle.std.specs.Str.{bytes_eq};
 ghost use Rattle.indexmap.specs.IndexSet.{contains};
 ghost use Rattle.mt_catalog.specs.Rules.{IsCatalogue, column_names, quota_total};
@@ -6,10 +6,10 @@ ghost use Rattle.mt_catalog.specs.State as state;
 ghost use Rattle.mt_schema.specs.Refusals as tests;
 ghost use Rattle.mt_schema.specs.Steps as steps;
 
-use crate::definitions::{extension_number, table_number};
+use crate::definitions::{extension_number, member, table_number};
 use crate::steps::{cover_for, tenant_of};
-use indexmap::{IndexMap, IndexSet};
-use mt_catalog::{Catalog, Extension, TenantEntry, TenantTable};
+use indexmap::IndexSet;
+use mt_catalog::{Catalog, Extension, TenantTable};
 use mt_fold::Placement;
 use mt_list::List;
 use mt_tree::{AdminCmd, Code, Column, Def, DefKind, Names, Table};
@@ -63,10 +63,19 @@ fn named(alloc: Global, defs: &[Def]) -> Result<IndexSet<Str>, AllocError>
     ensures { IfOk result (λ names. (name : List ℕ) → contains bytes_eq names name ≡ steps.has_name (tests.def_names defs.now) name) }
 {
     let mut names = IndexSet::new(alloc);
-    for def in defs {
-        names.insert(def.name.copy()?)?;
+    let mut rest = defs;
+    while let Some((first, others)) = rest.split_first() {
+        names.insert(first.name.copy()?)?;
+        rest = others;
     }
     Ok(names)
+}
+
+/// Whether each of these is among the names.
+fn are_among(names: &IndexSet<Str>, wanted: &[Str]) -> bool
+    ensures { result ≡ list_all (contains bytes_eq names.now) wanted.now }
+{
+    wanted.iter().all(|name| names.contains(name))
 }
 
 /// Whether each column of a key is defined.
@@ -74,7 +83,7 @@ fn all_defined(alloc: Global, defs: &[Def], key: &[Str]) -> Result<bool, AllocEr
     ensures { IfOk result (λ all. all ≡ list_all (steps.has_name (tests.def_names defs.now)) key.now) }
 {
     let names = named(alloc, defs)?;
-    Ok(key.iter().all(|name| names.contains(name)))
+    Ok(are_among(&names, key))
 }
 
 /// Whether a name is defined twice.
@@ -139,7 +148,7 @@ fn table_refusal(
 fn base_columns(bases: &[Table], number: usize) -> &[Column]
     ensures { result.now ≡ state.base_columns (slice_get bases.now number) }
 {
-    match bases.get(number) {
+    match member(bases, number) {
         None => &[],
         Some(base) => base.columns.as_slice(),
     }
@@ -149,7 +158,7 @@ fn base_columns(bases: &[Table], number: usize) -> &[Column]
 fn extension_columns(extensions: &[Extension], number: usize) -> &[Column]
     ensures { result.now ≡ state.extension_columns (slice_get extensions.now number) }
 {
-    match extensions.get(number) {
+    match member(extensions, number) {
         None => &[],
         Some(extension) => extension.columns.as_slice(),
     }
@@ -308,7 +317,7 @@ fn extension_named<'a>(catalog: &'a Catalog, name: &Str) -> Option<&'a Extension
 {
     match extension_number(catalog.extensions.as_slice(), name) {
         None => None,
-        Some(number) => catalog.extensions.as_slice().get(number),
+        Some(number) => member(catalog.extensions.as_slice(), number),
     }
 }
 
@@ -319,7 +328,7 @@ fn tenant_table(catalog: &Catalog, tenant: u64, base: u32) -> Option<&TenantTabl
 {
     match tenant_of(catalog, tenant) {
         None => None,
-        Some(entry) => entry.tables.as_slice().get(base as usize),
+        Some(entry) => member(entry.tables.as_slice(), base as usize),
     }
 }
 

@@ -10,7 +10,7 @@ ghost use Rattle.mt_schema.specs.Refusals as refusals;
 ghost use Rattle.mt_schema.specs.Steps as steps;
 
 use crate::copies::{add_new_tables, copied_catalog, copied_list, copied_numbers, tenants_with};
-use crate::definitions::{defined_extension, defined_table, extension_number};
+use crate::definitions::{defined_extension, defined_table, extension_number, member};
 use mt_catalog::{Catalog, Extension, TenantEntry, TenantTable};
 use mt_cover::cover;
 use mt_fold::{Placement, Shapes, extend_fold};
@@ -203,7 +203,7 @@ fn extended_entry(
 {
     let base = extension.base as usize;
     let mut tables = copied_list(alloc, entry.tables.as_slice())?.into_vec();
-    if let Some(table) = entry.tables.as_slice().get(base) {
+    if let Some(table) = member(entry.tables.as_slice(), base) {
         tables[base] = extended_table(alloc, number, &extension.columns, table)?;
     }
     Ok(TenantEntry {
