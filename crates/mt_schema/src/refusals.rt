@@ -1,15 +1,17 @@
-ghost use Rattle.std.specs.Prelude.{◌≡◌, ℕ, List, ◌++◌, flat_map, list_all, slice_get, option_copied, IfOk, OnOk};
+ghost use Rattle.std.specs.Prelude.{◌≡◌, ℕ, ◌+◌, ◌≤◌, ◌||◌, nat_lt, not, List, ◌++◌, flat_map, length, slice_get, option_copied, is_some, unwrap_or, IfOk, OnOk};
+ghost use Rattle.std.specs.List.{list_all};
 ghost use Rattle.std.specs.Str.{bytes_eq};
 ghost use Rattle.indexmap.specs.IndexSet.{contains};
 ghost use Rattle.mt_catalog.specs.Rules.{IsCatalogue, column_names, quota_total};
 ghost use Rattle.mt_catalog.specs.State as state;
+ghost use Rattle.mt_catalog.specs.State.{State};
 ghost use Rattle.mt_schema.specs.Refusals as tests;
 ghost use Rattle.mt_schema.specs.Steps as steps;
 
 use crate::definitions::{extension_number, member, table_number};
 use crate::steps::{cover_for, tenant_of};
 use indexmap::IndexSet;
-use mt_catalog::{Catalog, Extension, TenantTable};
+use mt_catalog::{Catalog, Extension, TenantEntry, TenantTable};
 use mt_fold::Placement;
 use mt_list::List;
 use mt_tree::{AdminCmd, Code, Column, Def, DefKind, Names, Table};
@@ -18,6 +20,20 @@ use std::alloc::{AllocError, Global};
 
 /// The most that all quotas are together.
 const QUOTAS: u64 = 1_048_576;
+
+/// The first code whose test holds.
+fn first_holding(asked: &[(Code, bool)]) -> Option<Code>
+    ensures { result ≡ tests.first_holding asked.now }
+{
+    let mut rest = asked;
+    while let Some((first, others)) = rest.split_first() {
+        if first.1 {
+            return Some(first.0);
+        }
+        rest = others;
+    }
+    None
+}
 
 /// Adds the names of columns at the end.
 fn add_column_names(names: &mut Names, columns: &[Column]) -> Result<(), AllocError>
@@ -78,23 +94,6 @@ fn are_among(names: &IndexSet<Str>, wanted: &[Str]) -> bool
     wanted.iter().all(|name| names.contains(name))
 }
 
-/// Whether each column of a key is defined.
-fn all_defined(alloc: Global, defs: &[Def], key: &[Str]) -> Result<bool, AllocError>
-    ensures { IfOk result (λ all. all ≡ list_all (steps.has_name (tests.def_names defs.now)) key.now) }
-{
-    let names = named(alloc, defs)?;
-    Ok(are_among(&names, key))
-}
-
-/// Whether a name is defined twice.
-fn repeats_names(alloc: Global, defs: &[Def]) -> Result<bool, AllocError>
-    ensures { IfOk result (λ repeats. repeats ≡ tests.has_repeat (tests.def_names defs.now)) }
-{
-    let mut names = List::new(alloc);
-    add_def_names(&mut names, defs)?;
-    has_repeat(alloc, names.as_slice())
-}
-
 /// Whether a number is from 1 to that one.
 fn is_upto(most: u64, number: u64) -> bool
     ensures { result ≡ tests.is_within 1 most number }
@@ -119,29 +118,63 @@ fn are_outside(defs: &[Def]) -> bool
     defs.len() > 16 || !defs.iter().all(|def| is_size_within(def.kind))
 }
 
+/// Whether a column of a key is not defined.
+fn lacks_columns(alloc: Global, defs: &[Def], key: &[Str]) -> Result<bool, AllocError>
+    ensures { IfOk result (λ lacks. lacks ≡ not (list_all (steps.has_name (tests.def_names defs.now)) key.now)) }
+{
+    let names = named(alloc, defs)?;
+    Ok(!are_among(&names, key))
+}
+
+/// Whether a column is defined twice, or stands in a key twice.
+fn repeats_columns(alloc: Global, defs: &[Def], key: &[Str]) -> Result<bool, AllocError>
+    ensures { IfOk result (λ repeats. repeats ≡ (tests.has_repeat (tests.def_names defs.now) || tests.has_repeat key.now)) }
+{
+    let mut names = List::new(alloc);
+    add_def_names(&mut names, defs)?;
+    if has_repeat(alloc, names.as_slice())? {
+        return Ok(true);
+    }
+    has_repeat(alloc, key)
+}
+
+/// Whether there is a base table of that name.
+fn has_table(bases: &[Table], name: &Str) -> bool
+    ensures { result ≡ is_some (steps.table_number bases.now name.now) }
+{
+    table_number(bases, name).is_some()
+}
+
+/// Whether there is an extension of that name.
+fn has_extension(extensions: &[Extension], name: &Str) -> bool
+    ensures { result ≡ is_some (steps.extension_number extensions.now name.now) }
+{
+    extension_number(extensions, name).is_some()
+}
+
+/// Whether there are more than so many already, or the columns are outside.
+fn is_over(count: usize, most: usize, defs: &[Def]) -> bool
+    ensures { result ≡ (nat_lt most count || tests.are_outside defs.now) }
+{
+    count > most || are_outside(defs)
+}
+
 /// The first refusal of CREATE TABLE.
 fn table_refusal(
     alloc: Global,
-    catalog: &Catalog,
+    bases: &[Table],
     name: &Str,
     defs: &[Def],
     key: &[Str],
 ) -> Result<Option<Code>, AllocError>
-    ensures { IfOk result (λ code. code ≡ tests.first_holding (tests.table_tests catalog.now name.now defs.now key.now)) }
+    ensures { (state : State) → state.bases ≡ bases.now → IfOk result (λ code. code ≡ tests.first_holding (tests.table_tests state name.now defs.now key.now)) }
 {
-    if !all_defined(alloc, defs, key)? {
-        return Ok(Some(Code::UnknownName));
-    }
-    if table_number(catalog.bases.as_slice(), name).is_some() {
-        return Ok(Some(Code::NameExists));
-    }
-    if repeats_names(alloc, defs)? || has_repeat(alloc, key)? {
-        return Ok(Some(Code::ColumnNameTaken));
-    }
-    if catalog.bases.len() > 15 || are_outside(defs) {
-        return Ok(Some(Code::Limit));
-    }
-    Ok(None)
+    Ok(first_holding(&[
+        (Code::UnknownName, lacks_columns(alloc, defs, key)?),
+        (Code::NameExists, has_table(bases, name)),
+        (Code::ColumnNameTaken, repeats_columns(alloc, defs, key)?),
+        (Code::Limit, is_over(bases.len(), 15, defs)),
+    ]))
 }
 
 /// The columns of a base table; none where it is not there.
@@ -174,30 +207,31 @@ fn repeats_beside(alloc: Global, columns: &[Column], defs: &[Def]) -> Result<boo
     has_repeat(alloc, names.as_slice())
 }
 
+/// The number of the table of that name, or 0.
+fn base_number(bases: &[Table], name: &Str) -> usize
+    ensures { result ≡ unwrap_or (steps.table_number bases.now name.now) 0 }
+{
+    table_number(bases, name).unwrap_or(0)
+}
+
 /// The first refusal of CREATE EXTENSION.
 fn extension_refusal(
     alloc: Global,
-    catalog: &Catalog,
+    bases: &[Table],
+    extensions: &[Extension],
     name: &Str,
     base: &Str,
     defs: &[Def],
 ) -> Result<Option<Code>, AllocError>
-    ensures { IfOk result (λ code. code ≡ tests.first_holding (tests.extension_tests catalog.now name.now base.now defs.now)) }
+    ensures { (state : State) → state.bases ≡ bases.now → state.extensions ≡ extensions.now → IfOk result (λ code. code ≡ tests.first_holding (tests.extension_tests state name.now base.now defs.now)) }
 {
-    let bases = catalog.bases.as_slice();
-    let Some(number) = table_number(bases, base) else {
-        return Ok(Some(Code::UnknownName));
-    };
-    if extension_number(catalog.extensions.as_slice(), name).is_some() {
-        return Ok(Some(Code::NameExists));
-    }
-    if repeats_beside(alloc, base_columns(bases, number), defs)? {
-        return Ok(Some(Code::ColumnNameTaken));
-    }
-    if catalog.extensions.len() > 63 || are_outside(defs) {
-        return Ok(Some(Code::Limit));
-    }
-    Ok(None)
+    let columns = base_columns(bases, base_number(bases, base));
+    Ok(first_holding(&[
+        (Code::UnknownName, !has_table(bases, base)),
+        (Code::NameExists, has_extension(extensions, name)),
+        (Code::ColumnNameTaken, repeats_beside(alloc, columns, defs)?),
+        (Code::Limit, is_over(extensions.len(), 63, defs)),
+    ]))
 }
 
 /// The quotas of all tenants together.
@@ -212,24 +246,33 @@ fn quota_total(catalog: &Catalog) -> u64
     total
 }
 
+/// Whether a tenant has a number or a quota that there is not, or there are too many.
+fn is_over_tenants(count: usize, tenant: u64, quota: u64) -> bool
+    ensures { result ≡ (nat_lt 999 count || not (tests.is_within 1 4294967295 tenant) || not (tests.is_within 1 65536 quota)) }
+{
+    count > 999 || !is_upto(4_294_967_295, tenant) || !is_upto(65_536, quota)
+}
+
+/// Whether a quota is too large beside the others.
+fn is_too_large(others: u64, quota: u64) -> bool
+    requires { others ≤ 1048576 }
+    ensures { result ≡ nat_lt 1048576 (others + quota) }
+{
+    quota > QUOTAS - others
+}
+
 /// The first refusal of CREATE TENANT.
 fn tenant_refusal(catalog: &Catalog, tenant: u64, quota: u64) -> Option<Code>
     requires { IsCatalogue catalog.now }
     ensures { result ≡ tests.first_holding (tests.tenant_tests catalog.now tenant quota) }
 {
-    if tenant_of(catalog, tenant).is_some() {
-        return Some(Code::NameExists);
-    }
-    if catalog.tenants.len() > 999
-        || !is_upto(u64::from(u32::MAX), tenant)
-        || !is_upto(65_536, quota)
-    {
-        return Some(Code::Limit);
-    }
-    if quota_total(catalog) + quota > QUOTAS {
-        return Some(Code::QuotasTooLarge);
-    }
-    None
+    let there = tenant_of(catalog, tenant).is_some();
+    let total = quota_total(catalog);
+    first_holding(&[
+        (Code::NameExists, there),
+        (Code::Limit, is_over_tenants(catalog.tenants.len(), tenant, quota)),
+        (Code::QuotasTooLarge, is_too_large(total, quota)),
+    ])
 }
 
 /// Adds the names of the columns of these extensions at the end.
@@ -283,6 +326,15 @@ fn chunks_in(placement: &Placement) -> usize
     }
 }
 
+/// Whether a table whose fold has so many chunks has too many with those of further columns.
+fn are_many_chunks(alloc: Global, count: usize, added: &[Column]) -> Result<bool, AllocError>
+    requires { length added.now ≤ 32 }
+    ensures { IfOk result (λ are. are ≡ nat_lt 16 (count + length (steps.cover_for added.now))) }
+{
+    let chunks = cover_for(alloc, added)?.len();
+    Ok(chunks > 16 || count > 16 - chunks)
+}
+
 /// The first refusal of EXTEND, where tenant and extension are there.
 fn extended_refusal(
     alloc: Global,
@@ -290,25 +342,20 @@ fn extended_refusal(
     extension: &Extension,
     table: &TenantTable,
 ) -> Result<Option<Code>, AllocError>
+    requires { length extension.now.columns ≤ 32 }
     ensures { IfOk result (λ code. code ≡ tests.first_holding (tests.extended_tests catalog.now extension.now.base extension.now.columns table.now)) }
 {
     let added = extension.columns.as_slice();
     let base = extension.base as usize;
     let mut names = extended_names(alloc, catalog, base, table.extended.as_slice())?;
     add_column_names(&mut names, added)?;
-    if has_repeat(alloc, names.as_slice())? {
-        return Ok(Some(Code::ColumnNameTaken));
-    }
-    if names.len() > 32 {
-        return Ok(Some(Code::Limit));
-    }
-    if is_moving(&table.placement) {
-        return Ok(Some(Code::TableIsMoving));
-    }
-    if chunks_in(&table.placement) + cover_for(alloc, added)?.len() > 16 {
-        return Ok(Some(Code::TooManyChunks));
-    }
-    Ok(None)
+    let chunks = chunks_in(&table.placement);
+    Ok(first_holding(&[
+        (Code::ColumnNameTaken, has_repeat(alloc, names.as_slice())?),
+        (Code::Limit, names.len() > 32),
+        (Code::TableIsMoving, is_moving(&table.placement)),
+        (Code::TooManyChunks, are_many_chunks(alloc, chunks, added)?),
+    ]))
 }
 
 /// The extension of that name.
@@ -351,25 +398,29 @@ fn extend_refusal(
     extended_refusal(alloc, catalog, extension, table)
 }
 
+/// The quota of a tenant; 0 where there is none.
+fn quota_of(found: Option<&TenantEntry>) -> u64
+    ensures { result ≡ tests.quota_of (option_copied found.entry) }
+{
+    match found {
+        None => 0,
+        Some(entry) => u64::from(entry.quota),
+    }
+}
+
 /// The first refusal of SET QUOTA, where so many rows are kept of the tenant.
 fn quota_refusal(catalog: &Catalog, kept: u64, tenant: u64, quota: u64) -> Option<Code>
     requires { IsCatalogue catalog.now }
     ensures { result ≡ tests.first_holding (tests.quota_tests catalog.now kept tenant quota) }
 {
-    let Some(entry) = tenant_of(catalog, tenant) else {
-        return Some(Code::UnknownName);
-    };
-    if !is_upto(65_536, quota) {
-        return Some(Code::Limit);
-    }
-    if quota < kept {
-        return Some(Code::QuotaBelowRows);
-    }
-    let others = quota_total(catalog).saturating_sub(u64::from(entry.quota));
-    if others + quota > QUOTAS {
-        return Some(Code::QuotasTooLarge);
-    }
-    None
+    let entry = tenant_of(catalog, tenant);
+    let others = quota_total(catalog).saturating_sub(quota_of(entry));
+    first_holding(&[
+        (Code::UnknownName, entry.is_none()),
+        (Code::Limit, !is_upto(65_536, quota)),
+        (Code::QuotaBelowRows, quota < kept),
+        (Code::QuotasTooLarge, is_too_large(others, quota)),
+    ])
 }
 
 /// The first refusal of a schema step, where so many rows are kept of the tenant that it names.
@@ -384,13 +435,18 @@ pub(crate) fn refusal(
 {
     match step {
         AdminCmd::CreateTable { name, columns, key } => {
-            table_refusal(alloc, catalog, name, columns.as_slice(), key.as_slice())
+            let bases = catalog.bases.as_slice();
+            table_refusal(alloc, bases, name, columns.as_slice(), key.as_slice())
         }
         AdminCmd::CreateExtension {
             name,
             base,
             columns,
-        } => extension_refusal(alloc, catalog, name, base, columns.as_slice()),
+        } => {
+            let bases = catalog.bases.as_slice();
+            let extensions = catalog.extensions.as_slice();
+            extension_refusal(alloc, bases, extensions, name, base, columns.as_slice())
+        }
         AdminCmd::CreateTenant { tenant, quota } => Ok(tenant_refusal(catalog, *tenant, *quota)),
         AdminCmd::Extend { tenant, extension } => {
             extend_refusal(alloc, catalog, *tenant, extension)
