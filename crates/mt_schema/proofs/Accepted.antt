@@ -1,5 +1,5 @@
 -- What a step has that is not refused.
-use Rattle.std.proofs.Common.{◌≡◌, ℕ, ◌+◌, ◌≤◌, true, false, List, [], ◌∷◌, length, Option, None, Some, refl, sym, ap, ◌∙◌, subst, ltb-false, arith}
+use Rattle.std.proofs.Common.{◌≡◌, ℕ, ◌+◌, ◌^◌, ◌≤◌, true, false, List, [], ◌∷◌, length, Option, None, Some, refl, sym, ap, ◌∙◌, subst, ltb-false, arith}
 use Rattle.std.specs.Prelude.{slice_get}
 use Rattle.std.specs.FinMap as finite
 use Rattle.std.proofs.lemmas.Bool.{and_parts, leb-true, not-false, or_parts}
@@ -11,6 +11,7 @@ use Rattle.mt_catalog.specs.declared.state.Extension.{Extension}
 use Rattle.mt_catalog.specs.declared.state.TenantEntry.{TenantEntry}
 use Rattle.mt_catalog.specs.declared.state.TenantTable.{TenantTable}
 use Rattle.mt_catalog.specs.State.{State, table_in, tenant_table}
+use Rattle.mt_catalog.specs.Rules.{IsCatalogue}
 use Rattle.mt_schema.specs.Refusals.{are_outside, chunks_in, extend_tests, extended_tests, extension_named, extension_tests, first_holding, quota_tests, step_refusal, table_tests, tenant_tests}
 use Rattle.mt_schema.specs.Steps.{cover_for}
 use Rattle.mt_schema.proofs.Refused.{none_holds}
@@ -57,3 +58,11 @@ chunks_fit state tenant extension entry table accepted entry_is table_is = by (t
 pub extension_found : (state : State) (name : List ℕ) (number : ℕ) (o : Option ℕ) → o ≡ Some number → (elim o [ None ↦ None | Some n ↦ slice_get state.extensions n ]) ≡ slice_get state.extensions number
 extension_found state name number None e = absurd (cc)
 extension_found state name number (Some n) e = let same : n ≡ number = cc in ap (slice_get state.extensions) same
+
+-- no tenant has a number that is not below 2^32
+pub number_past : (state : State) → IsCatalogue state → (tenant : ℕ) → 2 ^ 32 ≤ tenant → finite.get state.tenants tenant ≡ None
+number_past state rules tenant past = by (finite.get state.tenants tenant) refl
+  where
+    by : (o : Option TenantEntry) → finite.get state.tenants tenant ≡ o → finite.get state.tenants tenant ≡ None
+    by None e = e
+    by (Some entry) e = let within = (rules.tenants tenant entry e).number_upto in absurd (omega (arith, within, past))

@@ -9,6 +9,7 @@ use Rattle.std.specs.Ordering.{nat_cmp}
 use Rattle.std.proofs.lemmas.Map.Keys.{IsDistinct-head, IsDistinct-tail}
 use Rattle.mt_tree.specs.declared.schema.Table.{Table}
 use Rattle.mt_catalog.specs.declared.state.TenantEntry.{TenantEntry}
+use Rattle.mt_catalog.specs.State.{State}
 use Rattle.mt_catalog.proofs.Numbered.{got_looked}
 use Rattle.mt_schema.specs.Copies.{with_new_tables}
 use Rattle.mt_schema.specs.Steps.{in_each, with_new_table}
@@ -69,3 +70,7 @@ pub entries_stay : (es : List (ℕ × TenantEntry)) → changed (with_new_tables
 entries_stay [] = refl
 entries_stay (e ∷ es) =
     ap (λ (tables : List _). (e.0, record { quota = e.1.quota; tables = tables }) ∷ changed (with_new_tables []) es) (append-nil e.1.tables) ∙ ap (λ rest. e ∷ rest) (entries_stay es)
+
+-- catalogues with equal parts are equal
+pub same_state : (a b : State) → a.bases ≡ b.bases → a.extensions ≡ b.extensions → a.tenants ≡ b.tenants → a ≡ b
+same_state a b bases extensions tenants = λ i. record { bases = bases i; extensions = extensions i; tenants = tenants i }

@@ -1,4 +1,5 @@
-ghost use Rattle.std.specs.Prelude.{◌≡◌, ◌++◌, map, IfOk, OnOk};
+ghost use Rattle.std.specs.Prelude.{◌≡◌, ℕ, ◌++◌, Some, cond, map, nat_eq, IfOk, OnOk};
+ghost use Rattle.indexmap.specs.IndexMap.{get, insert_entry};
 ghost use Rattle.mt_schema.specs.Copies.{with_new_tables};
 ghost use Rattle.mt_schema.specs.Steps.{new_table};
 
@@ -119,6 +120,19 @@ fn entry_with(
     })
 }
 
+/// Keeps this of a tenant, in the place of what was kept before.
+pub(crate) fn put_entry(
+    tenants: &mut IndexMap<u32, TenantEntry>,
+    number: u32,
+    entry: TenantEntry,
+) -> Result<(), AllocError>
+    ensures entries { OnOk result (tenants.new.entries ≡ insert_entry nat_eq tenants.old.entries number entry) }
+    ensures looked { OnOk result ((n : ℕ) → get nat_eq tenants.new n ≡ cond (nat_eq number n) (Some entry) (get nat_eq tenants.old n)) }
+{
+    tenants.insert(number, entry)?;
+    Ok(())
+}
+
 /// Equal tenants in the same order, each with new tables of these base tables behind the others.
 pub(crate) fn tenants_with(
     alloc: Global,
@@ -130,7 +144,7 @@ pub(crate) fn tenants_with(
     let mut copied = IndexMap::with_capacity(alloc, tenants.len())?;
     for (number, entry) in tenants {
         let made = entry_with(alloc, entry, bases)?;
-        copied.insert(*number, made)?;
+        put_entry(&mut copied, *number, made)?;
     }
     Ok(copied)
 }

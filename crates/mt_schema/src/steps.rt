@@ -9,7 +9,7 @@ ghost use Rattle.mt_catalog.specs.Rules.{IsCatalogue};
 ghost use Rattle.mt_schema.specs.Refusals as refusals;
 ghost use Rattle.mt_schema.specs.Steps as steps;
 
-use crate::copies::{add_new_tables, copied_catalog, copied_list, copied_numbers, tenants_with};
+use crate::copies::{add_new_tables, copied_catalog, copied_list, copied_numbers, put_entry, tenants_with};
 use crate::definitions::{defined_extension, defined_table, extension_number, member};
 use mt_catalog::{Catalog, Extension, TenantEntry, TenantTable};
 use mt_cover::cover;
@@ -72,7 +72,7 @@ fn with_tenant(
     ensures { IfOk result (λ next. next ≡ record { bases = catalog.now.bases; extensions = catalog.now.extensions; tenants = finite.insert catalog.now.tenants tenant entry }) }
 {
     let mut tenants = tenants_with(alloc, &catalog.tenants, &[])?;
-    tenants.insert(tenant, entry)?;
+    put_entry(&mut tenants, tenant, entry)?;
     Ok(Catalog {
         bases: copied_list(alloc, catalog.bases.as_slice())?,
         extensions: copied_list(alloc, catalog.extensions.as_slice())?,
