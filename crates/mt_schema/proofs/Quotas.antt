@@ -1,9 +1,13 @@
 -- The quotas of all tenants together, in two catalogues.
-use Rattle.std.proofs.Common.{◌≡◌, ℕ, ◌+◌, Option, None, Some, refl, sym, ap, ◌∙◌, sum_by}
+use Rattle.std.proofs.Common.{◌≡◌, ℕ, ◌+◌, List, Option, None, Some, refl, sym, ap, ◌∙◌, sum_by}
+use Rattle.std.specs.Prelude.{nat_eq}
 use Rattle.std.specs.FinMap as finite
+use Rattle.std.specs.List.{IsDistinct}
+use Rattle.std.specs.Map.{keys_of, values_of}
 use Rattle.mt_catalog.specs.declared.state.TenantEntry.{TenantEntry}
 use Rattle.mt_catalog.specs.State.{State}
 use Rattle.mt_catalog.specs.Rules.{quota_total}
+use Rattle.mt_catalog.proofs.Numbered.{same_sum}
 use Rattle.mt_schema.specs.Refusals.{quota_of}
 use Rattle.mt_schema.specs.Steps.{in_each}
 use Rattle.mt_schema.proofs.Put.{put_tenant}
@@ -28,3 +32,8 @@ pub quotas_put : (state : State) (tenant : ℕ) (entry : TenantEntry) → quota_
 unfolding quota_total
 quotas_put state tenant entry =
     ap (λ n. sum_by (λ e. e.quota) (finite.values (finite.insert state.tenants tenant entry)) + n) (sym (measured_quota (finite.get state.tenants tenant))) ∙ sum-insert (λ e. e.quota) state.tenants tenant entry
+
+-- of the entries that the map of the tenants is made of
+pub quotas_are : (state : State) (es : List (ℕ × TenantEntry)) → finite.from_entries es ≡ state.tenants → IsDistinct nat_eq (keys_of es) → quota_total state ≡ sum_by (λ entry. entry.quota) (values_of es)
+unfolding quota_total
+quotas_are state es is distinct = ap (λ tenants. sum_by (λ entry. entry.quota) (finite.values tenants)) (sym is) ∙ same_sum (λ entry. entry.quota) es distinct

@@ -1,4 +1,5 @@
 ghost use Rattle.std.specs.Prelude.{◌≡◌, ℕ, ◌+◌, ◌≤◌, ◌||◌, nat_lt, not, List, ◌++◌, flat_map, length, slice_get, option_copied, is_some, unwrap_or, IfOk, OnOk};
+ghost use Rattle.std.specs.FinMap as finite;
 ghost use Rattle.std.specs.List.{list_all};
 ghost use Rattle.std.specs.Str.{bytes_eq};
 ghost use Rattle.indexmap.specs.IndexSet.{contains};
@@ -111,11 +112,18 @@ fn is_size_within(kind: DefKind) -> bool
     }
 }
 
+/// Whether there is the kind of each of these columns.
+fn are_sizes_within(defs: &[Def]) -> bool
+    ensures { result ≡ list_all (λ def. tests.is_size_within def.kind) defs.now }
+{
+    defs.iter().all(|def| is_size_within(def.kind))
+}
+
 /// Whether there are too many columns, or one of a size that there is not.
 fn are_outside(defs: &[Def]) -> bool
     ensures { result ≡ tests.are_outside defs.now }
 {
-    defs.len() > 16 || !defs.iter().all(|def| is_size_within(def.kind))
+    defs.len() > 16 || !are_sizes_within(defs)
 }
 
 /// Whether a column of a key is not defined.
@@ -240,7 +248,7 @@ fn quota_total(catalog: &Catalog) -> u64
     ensures { result ≡ quota_total catalog.now }
 {
     let mut total = 0;
-    for entry in catalog.tenants.values() {
+    for (_number, entry) in catalog.tenants.iter() {
         total += u64::from(entry.quota);
     }
     total
@@ -261,16 +269,31 @@ fn is_too_large(others: u64, quota: u64) -> bool
     quota > QUOTAS - others
 }
 
+/// How many tenants there are.
+fn tenant_count(catalog: &Catalog) -> usize
+    ensures { result ≡ finite.len catalog.now.tenants }
+{
+    catalog.tenants.len()
+}
+
+/// Whether there is a tenant of that number.
+fn has_tenant(catalog: &Catalog, tenant: u64) -> bool
+    requires { IsCatalogue catalog.now }
+    ensures { result ≡ finite.contains_key catalog.now.tenants tenant }
+{
+    tenant_of(catalog, tenant).is_some()
+}
+
 /// The first refusal of CREATE TENANT.
 fn tenant_refusal(catalog: &Catalog, tenant: u64, quota: u64) -> Option<Code>
     requires { IsCatalogue catalog.now }
     ensures { result ≡ tests.first_holding (tests.tenant_tests catalog.now tenant quota) }
 {
-    let there = tenant_of(catalog, tenant).is_some();
+    let count = tenant_count(catalog);
     let total = quota_total(catalog);
     first_holding(&[
-        (Code::NameExists, there),
-        (Code::Limit, is_over_tenants(catalog.tenants.len(), tenant, quota)),
+        (Code::NameExists, has_tenant(catalog, tenant)),
+        (Code::Limit, is_over_tenants(count, tenant, quota)),
         (Code::QuotasTooLarge, is_too_large(total, quota)),
     ])
 }
