@@ -7,12 +7,11 @@ use Rattle.std.specs.List.{AllByRecursion as Each, IsDistinct}
 use Rattle.std.specs.Map.{keys_of, lookup}
 use Rattle.std.specs.Ordering.{nat_cmp}
 use Rattle.std.proofs.lemmas.Map.Keys.{IsDistinct-head, IsDistinct-tail}
-use Rattle.mt_tree.specs.declared.schema.Table.{Table}
 use Rattle.mt_catalog.specs.declared.state.TenantEntry.{TenantEntry}
 use Rattle.mt_catalog.specs.State.{State}
 use Rattle.mt_catalog.proofs.Numbered.{got_looked}
 use Rattle.mt_schema.specs.Copies.{with_new_tables}
-use Rattle.mt_schema.specs.Steps.{in_each, with_new_table}
+use Rattle.mt_schema.specs.Steps.{in_each}
 use Rattle.mt_schema.proofs.Maps.{find-map, get-in_each, get-insert}
 
 -- a number differs from those in front of it

@@ -1,5 +1,3 @@
-pub mod Accepted
-pub mod Asked
 pub mod CanExtend
 pub mod ChangedQuota
 pub mod Changes
@@ -18,7 +16,6 @@ pub mod NewTable
 pub mod Numbered
 pub mod Put
 pub mod Quotas
-pub mod Reached
 pub mod Refused
 pub mod Repeats
 pub mod RulesExtend
@@ -28,5 +25,6 @@ pub mod RulesTable
 pub mod Sayable
 pub mod SayableTables
 pub mod Stays
+pub mod TenantNumbers
 pub mod Totals
 pub mod Turning

@@ -1,7 +1,7 @@
 -- Names that are looked for one after another among those in front of them.
-use Rattle.std.proofs.Common.{◌≡◌, ℕ, Bool, true, false, cond, ◌||◌, List, [], ◌∷◌, ◌++◌, refl, sym, ap, ◌∙◌}
+use Rattle.std.proofs.Common.{◌≡◌, ℕ, Bool, true, false, ◌||◌, List, [], ◌∷◌, ◌++◌, refl, sym, ap, ◌∙◌}
 use Rattle.std.specs.Str.{bytes_eq}
-use Rattle.std.specs.List.{AllByRecursion as Each, IsDistinct, list_any}
+use Rattle.std.specs.List.{AllByRecursion as Each, list_any}
 use Rattle.std.proofs.lemmas.Bool.{or_cases, or_left, or_right, true≢false}
 use Rattle.std.proofs.lemmas.Cmp.{nat_list_eq_equiv}
 use Rattle.std.proofs.lemmas.Map.Keys.{IsDistinct-head, IsDistinct-tail}
@@ -32,13 +32,3 @@ pub apart_no_repeat : (names : List (List ℕ)) → AreApart names → has_repea
 apart_no_repeat [] apart = refl
 apart_no_repeat (name ∷ names) apart =
     ap (λ b. b || has_repeat names) (none_equal (bytes_eq name) names (IsDistinct-head bytes_eq name names apart)) ∙ apart_no_repeat names (IsDistinct-tail bytes_eq name names apart)
-
--- a name that is added is found from then on
-pub found_added : (before after : Bool) (added name : List ℕ) (rest : Bool) → after ≡ cond (bytes_eq added name) true before → (after || rest) ≡ (before || (bytes_eq name added || rest))
-found_added before after added name rest e = ap (λ b. b || rest) e ∙ ap (λ b. cond b true before || rest) (nat_list_eq_equiv.symm added name) ∙ by (bytes_eq name added) before
-  where
-    by : (b before : Bool) → (cond b true before || rest) ≡ (before || (b || rest))
-    by true true = refl
-    by true false = refl
-    by false true = refl
-    by false false = refl

@@ -9,7 +9,9 @@ ghost use Rattle.mt_catalog.specs.Rules.{IsCatalogue};
 ghost use Rattle.mt_schema.specs.Refusals as refusals;
 ghost use Rattle.mt_schema.specs.Steps as steps;
 
-use crate::copies::{add_new_tables, copied_catalog, copied_list, copied_numbers, put_entry, tenants_with};
+use crate::copies::{
+    add_new_tables, copied_catalog, copied_list, copied_numbers, put_entry, tenants_with,
+};
 use crate::definitions::{defined_extension, defined_table, extension_number, member};
 use mt_catalog::{Catalog, Extension, TenantEntry, TenantTable};
 use mt_cover::cover;

@@ -7,4 +7,4 @@ use Rattle.mt_catalog.specs.Rules.{quota_total}
 use Rattle.mt_schema.proofs.refusals.quota_total.Given as goal
 
 abbrev pub invariant-loop-number : goal.invariant-loop-number
-invariant-loop-number l = l.total + sum_by (λ (entry : TenantEntry). entry.quota) (values_of l.number-iterator) ≡ quota_total l.catalog
+invariant-loop-number l = l.total + sum_by (λ (entry : TenantEntry). entry.quota) (values_of l._number-iterator) ≡ quota_total l.catalog

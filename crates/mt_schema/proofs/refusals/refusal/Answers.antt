@@ -17,7 +17,7 @@ returns-in-CreateTable c =
     let bases : state.bases ≡ c.as_slice-bases.result.now = sym (c.as_slice-bases.ensures ∙ ap (λ (of : State). of.bases) c.catalog.view_is) in
     IfOk-weaker c.table_refusal.result (λ (code : Option Code). code ≡ first_holding (table_tests state name columns key)) (λ (code : Option Code). code ≡ step_refusal state (λ _. c.args.kept) c.args.step.now)
     (λ code e. e ∙ ap (λ (of : List Def). first_holding (table_tests state name of key)) c.as_slice.ensures
-        ∙ ap (λ (of : List (List ℕ)). first_holding (table_tests state name c.in-CreateTable.columns of)) c.as_slice-in-CreateTable.ensures ∙ ap (λ (of : AdminCmd). step_refusal state (λ _. c.args.kept) of) (sym c.in-CreateTable.is))
+    ∙ ap (λ (of : List (List ℕ)). first_holding (table_tests state name c.in-CreateTable.columns of)) c.as_slice-in-CreateTable.ensures ∙ ap (λ (of : AdminCmd). step_refusal state (λ _. c.args.kept) of) (sym c.in-CreateTable.is))
     (c.table_refusal.ensures state bases)
 
 pub returns-in-CreateExtension : goal.returns-in-CreateExtension

@@ -3,7 +3,7 @@ use Rattle.std.proofs.Common.{sym, ap, ◌∙◌, arith}
 use Rattle.std.specs.FinMap as finite
 use Rattle.mt_catalog.specs.State.{State}
 use Rattle.mt_catalog.proofs.Numbered.{got_looked}
-use Rattle.mt_schema.proofs.Accepted.{number_past}
+use Rattle.mt_schema.proofs.TenantNumbers.{number_past}
 use Rattle.mt_schema.proofs.steps.tenant_of.Goals as goal
 
 pub returns-then-tenant-from : goal.returns-then-tenant-from
