@@ -1,3 +1,4 @@
+pub mod Accepted
 pub mod CanExtend
 pub mod ChangedQuota
 pub mod Changes
@@ -22,5 +23,6 @@ pub mod RulesTable
 pub mod Sayable
 pub mod SayableTables
 pub mod Stays
+pub mod Tenants
 pub mod Totals
 pub mod Turning

@@ -14,3 +14,6 @@ mod steps;
 
 pub use laws::{changed_slots_turn_the_catalogue, schema_steps_keep_the_rules, slots_are_sayable};
 pub use prepared::{CatRows, Prepared, StepFault, accept, prepare};
+
+#[cfg(test)]
+mod tests;
