@@ -5,6 +5,7 @@ pub mod Changes
 pub mod Defined
 pub mod ExtendedSlots
 pub mod ExtendedTable
+pub mod Grown
 pub mod KeepsRules
 pub mod MadeExtension
 pub mod MadeTable
@@ -26,3 +27,4 @@ pub mod Stays
 pub mod Tenants
 pub mod Totals
 pub mod Turning
+pub mod WrittenSlots

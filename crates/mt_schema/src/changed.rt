@@ -1,7 +1,8 @@
 //! The keys of the slots that a schema step puts or removes.
-ghost use Rattle.std.specs.Prelude.{◌≡◌, ℕ, ◌+◌, ◌<◌, ◌≤◌, ◌^◌, ◌++◌, ◌==◌, if◌then◌else◌, List as Members, [], ◌∷◌, find, length, map, IfOk, None, OnOk, option_copied};
+ghost use Rattle.std.specs.Prelude.{◌≡◌, ℕ, ◌+◌, ◌<◌, ◌≤◌, ◌^◌, ◌++◌, ◌==◌, if◌then◌else◌, List as Members, [], ◌∷◌, find, length, map, nat_eq, IfOk, None, OnOk, option_copied};
 ghost use Rattle.std.specs.FinMap as finite;
-ghost use Rattle.std.specs.List.{range_with_len};
+ghost use Rattle.std.specs.List.{IsDistinct, range_with_len};
+ghost use Rattle.std.specs.Map.{keys_of};
 ghost use Rattle.std.specs.Str.{bytes_eq};
 ghost use Rattle.mt_tree.specs.declared.schema.Column.{Column};
 ghost use Rattle.mt_fold.specs.Placements.{IsValidPlacement};
@@ -13,7 +14,8 @@ ghost use Rattle.mt_schema.specs.Changed as spec;
 ghost use Rattle.mt_schema.specs.Refusals as refusals;
 
 use crate::slots::{tenant_entry, tenant_table};
-use mt_catalog::{Catalog, Extension};
+use indexmap::IndexMap;
+use mt_catalog::{Catalog, Extension, TenantEntry};
 use mt_catslot::{CatKey, Class};
 use mt_fold::Placement;
 use mt_list::List;
@@ -84,15 +86,20 @@ fn table_keys(
 {
     let number = catalog.bases.len() as u32;
     let mut changed = relation_keys(alloc, Class::BaseTable, number, columns)?;
-    add_tables(&mut changed, catalog, number)?;
+    add_tables(&mut changed, &catalog.tenants, number)?;
     Ok(changed)
 }
 
-/// Adds the keys of the tables that the tenants have of a base table.
-fn add_tables(changed: &mut List<CatKey>, catalog: &Catalog, base: u32) -> Result<(), AllocError>
-    ensures { OnOk result ((tenants : Members ℕ) × spec.AreTenants tenants catalog.now × (changed.new ≡ changed.old ++ map (λ tenant. keys.Placement tenant base) tenants)) }
+/// Adds the keys of the tables that these tenants have of a base table.
+fn add_tables(
+    changed: &mut List<CatKey>,
+    tenants: &IndexMap<u32, TenantEntry>,
+    base: u32,
+) -> Result<(), AllocError>
+    ensures ok { OnOk result (changed.new ≡ changed.old ++ map (λ tenant. keys.Placement tenant base) (keys_of tenants.now.entries)) }
+    ensures once { OnOk result (IsDistinct nat_eq (keys_of tenants.now.entries)) }
 {
-    for tenant in catalog.tenants.keys() {
+    for tenant in tenants.keys() {
         changed.push(CatKey::Placement {
             tenant: *tenant,
             base,
