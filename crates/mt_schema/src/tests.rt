@@ -1,4 +1,7 @@
-ghost use Rattle.std.specs.Prelude.{◌≡◌, All, IfOk, IsTrue, false};
+ghost use Rattle.std.specs.Prelude.{◌≡◌, ◌≤◌, All, length, IfOk, IsTrue, OnOk, false};
+ghost use Rattle.std.specs.Bool.{Decides};
+ghost use Rattle.mt_rowfile.specs.Layouts.{body_width};
+ghost use Rattle.mt_rowfile.specs.Slots.{IsBody};
 ghost use Rattle.mt_lexer.specs.Reserved.{IsNameText};
 ghost use Rattle.mt_catalog.specs.Rules.{IsCatalogue};
 ghost use Rattle.mt_schema.specs.Steps.{IsWellFormed};
@@ -8,6 +11,7 @@ use crate::{StepFault, accept, prepare};
 use mt_catalog::{CatBodies, Catalog, read_catalog};
 use mt_lexer::is_name;
 use mt_list::List;
+use mt_rowfile::{Head, Layout, check_slot, slot_width};
 use mt_tree::DefKind::{Integer, Varchar};
 use mt_tree::{AdminCmd, Code, Def, DefKind, Names};
 use mt_value::Str;
@@ -78,7 +82,7 @@ fn step_of(alloc: Global, line: Line) -> Result<AdminCmd, AllocError> {
 
 /// Whether each column has a name.
 fn are_named(defs: &[Def]) -> bool
-    ensures { IsTrue result → All (λ def. IsNameText def.name) defs.now }
+    ensures { Decides result (All (λ def. IsNameText def.name) defs.now) }
 {
     let mut rest = defs;
     while let Some((first, others)) = rest.split_first() {
@@ -90,13 +94,20 @@ fn are_named(defs: &[Def]) -> bool
     true
 }
 
+/// Whether a column has a name, and is not NOT NULL.
+fn is_plain(def: &Def) -> bool
+    ensures { Decides result (IsNameText def.now.name × (def.now.not_null ≡ false)) }
+{
+    is_name(&def.name) && !def.not_null
+}
+
 /// Whether each column has a name, and none is NOT NULL.
 fn are_plain(defs: &[Def]) -> bool
-    ensures { IsTrue result → All (λ def. IsNameText def.name × (def.not_null ≡ false)) defs.now }
+    ensures { Decides result (All (λ def. IsNameText def.name × (def.not_null ≡ false)) defs.now) }
 {
     let mut rest = defs;
     while let Some((first, others)) = rest.split_first() {
-        if first.not_null || !is_name(&first.name) {
+        if !is_plain(first) {
             return false;
         }
         rest = others;
@@ -395,5 +406,67 @@ fn chunks_are_too_many(rt: HostRuntime) -> Result<(), Fail> {
     let catalog = chunked(&rt, alloc)?;
     let found = refusal_of(&rt, alloc, &catalog, 0, Extend(1, "extension_16"))?;
     assert_eq!(rt; found, Some(Code::TooManyChunks));
+    Ok(())
+}
+
+/// The slots of a tenant whose table moves, and of an extension, each as its table and its body up to
+/// the last byte that is not 0.
+const MOVING: [(u8, &[u8]); 6] = [
+    (8, b"\0\0\0\0\0\0\0\0\0\x04item"),
+    (9, b"\0\0\0\0\0\0\0\0\0\x01\0\x01\x01\x02id"),
+    (8, b"\0\0\0\0\x01\0\0\0\0\x05extra"),
+    (9, b"\x01\0\0\0\0\0\0\0\0\x01\0\0\0\x05price"),
+    (10, b"\x07\0\0\0\x0a"),
+    (11, b"\x07\0\0\0\0\0\0\0\x09\0\0\0\0\0\0\0\x01\0\x02\0\0\0\0\0\0\0\x09"),
+];
+
+/// Adds a body, with zeros behind these bytes up to its width.
+fn add_body(
+    rt: &impl Abort,
+    alloc: Global,
+    bodies: &mut CatBodies,
+    table: u8,
+    bytes: &[u8],
+) -> Result<(), Fail>
+    requires tables { All (λ body. (8 ≤ body.0) × (body.0 ≤ 13)) bodies.old }
+    requires widths { All (λ body. length body.1 ≡ body_width body.0) bodies.old }
+    requires readable { All (λ body. IsBody body.0 body.1) bodies.old }
+    ensures tables { OnOk result (All (λ body. (8 ≤ body.0) × (body.0 ≤ 13)) bodies.new) }
+    ensures widths { OnOk result (All (λ body. length body.1 ≡ body_width body.0) bodies.new) }
+    ensures readable { OnOk result (All (λ body. IsBody body.0 body.1) bodies.new) }
+{
+    assert!(rt; 8 <= table);
+    assert!(rt; table <= 13);
+    let layout = Layout {
+        head: Head::Catalogue(table),
+        kinds: List::new(alloc),
+    };
+    let mut slot = Vec::from_slice(alloc, &[1])?;
+    slot.extend_from_slice(bytes)?;
+    slot.resize(slot_width(&layout), 0)?;
+    assert!(rt; check_slot(&layout, slot.as_slice()));
+    assert!(rt; slot[0] != 0);
+    let body = Vec::from_slice(alloc, &slot[1..])?;
+    bodies.push((u32::from(table), List::from_vec(body)))?;
+    Ok(())
+}
+
+/// The catalogue of a tenant whose table moves.
+fn moving(rt: &impl Abort, alloc: Global) -> Result<Catalog, Fail>
+    ensures { IfOk result (λ catalog. IsCatalogue catalog) }
+{
+    let mut bodies = List::new(alloc);
+    for (table, bytes) in MOVING {
+        add_body(rt, alloc, &mut bodies, table, bytes)?;
+    }
+    Ok(read_catalog(alloc, &bodies)?)
+}
+
+#[test]
+fn moving_tables_are_not_extended(rt: HostRuntime) -> Result<(), Fail> {
+    let alloc = rt.alloc();
+    let catalog = moving(&rt, alloc)?;
+    let found = refusal_of(&rt, alloc, &catalog, 0, Extend(7, "extra"))?;
+    assert_eq!(rt; found, Some(Code::TableIsMoving));
     Ok(())
 }
