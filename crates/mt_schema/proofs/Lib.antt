@@ -14,6 +14,7 @@ pub mod Maps
 pub mod Names
 pub mod NewTable
 pub mod Numbered
+pub mod Preparing
 pub mod Put
 pub mod Quotas
 pub mod Refused

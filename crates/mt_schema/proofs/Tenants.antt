@@ -21,7 +21,7 @@ same_any n (number ∷ numbers) = ap (λ b. b || list_any (nat_eq n) numbers) (s
 -- entries in which each tenant is found
 tenants_are : (state : State) (entries : List (ℕ × TenantEntry)) → ((n : ℕ) → finite.get state.tenants n ≡ find nat_cmp n entries) → IsDistinct nat_eq (keys_of entries) → AreTenants (keys_of entries) state
 tenants_are state entries found distinct = record {
-  all = λ n. same_any n (keys_of entries) ∙ sym (is_some-find n entries) ∙ ap is_some (sym (found n));
+  all = λ n. same_any n (keys_of entries) ∙ sym (is_some-find nat_cmp n entries) ∙ ap is_some (sym (found n));
   once = distinct;
 }
 
