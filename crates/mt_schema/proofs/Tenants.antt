@@ -1,6 +1,6 @@
 -- The numbers of all tenants, by the entries of their map.
 use Rattle.std.proofs.Common.{◌≡◌, ℕ, false, ◌||◌, T, List, [], ◌∷◌, refl, sym, ap, ◌∙◌}
-use Rattle.std.specs.Prelude.{is_some, nat_eq}
+use Rattle.std.specs.Prelude.{IfOk, Result, is_some, nat_eq}
 use Rattle.std.specs.Cmp.{nat_cmp_total, unsigned_tied}
 use Rattle.std.specs.FinMap as finite
 use Rattle.std.specs.FinMap.Entries.{below_all, find, is_some-find, is_sorted}
@@ -8,9 +8,12 @@ use Rattle.std.specs.List.{AllByRecursion as Each, IsDistinct, list_any}
 use Rattle.std.specs.Map.{keys_of}
 use Rattle.std.specs.Ordering.{eq_by_cmp, is_eq, nat_cmp}
 use Rattle.std.proofs.lemmas.Map.Keys.{IsDistinct-cons}
+use Rattle.std.proofs.lemmas.Result.{IfOk-weaker}
+use Rattle.mt_tree.specs.declared.command.AdminCmd.{AdminCmd}
+use Rattle.mt_catslot.specs.declared.slot.CatKey.{CatKey}
 use Rattle.mt_catalog.specs.declared.state.TenantEntry.{TenantEntry}
 use Rattle.mt_catalog.specs.State.{State}
-use Rattle.mt_schema.specs.Changed.{AreTenants}
+use Rattle.mt_schema.specs.Changed.{AreTenants, changed_keys}
 use Rattle.mt_schema.proofs.Totals.{first_of, less_is, second_of}
 
 -- two tests that agree at each number
@@ -46,3 +49,10 @@ sorted_distinct (entry ∷ entries) sorted = IsDistinct-cons nat_eq entry.0 (key
 -- each catalogue has its tenants' numbers in their order
 pub every_tenant : (state : State) → AreTenants (keys_of (finite.entries state.tenants)) state
 every_tenant state = tenants_are state (finite.entries state.tenants) (finite.get-entries state.tenants) (sorted_distinct (finite.entries state.tenants) (finite.entries_sorted state.tenants))
+
+-- keys that do not ask who the tenants are
+pub of_each : {E : Type 0} (state : State) (step : AdminCmd) (result : Result (List CatKey) E) (found : List CatKey) → IfOk result (λ changed. changed ≡ found)
+    → found ≡ changed_keys state (keys_of (finite.entries state.tenants)) step → IfOk result (λ changed. (tenants : List ℕ) × AreTenants tenants state × (changed ≡ changed_keys state tenants step))
+of_each state step result found is same =
+    IfOk-weaker result (λ (changed : List CatKey). changed ≡ found) (λ (changed : List CatKey). (tenants : List ℕ) × AreTenants tenants state × (changed ≡ changed_keys state tenants step))
+    (λ changed e. (keys_of (finite.entries state.tenants), every_tenant state, e ∙ same)) is

@@ -1,9 +1,18 @@
 -- By the kinds of steps.
-use Rattle.std.proofs.Common.{◌≡◌, ℕ, List, None, sym, ap, ◌∙◌, arith}
+use Rattle.std.proofs.Common.{◌≡◌, ℕ, List, ◌∷◌, length, map, None, sym, ap, ◌∙◌, arith}
+use Rattle.std.specs.FinMap as finite
+use Rattle.std.specs.List.{range_with_len}
+use Rattle.std.specs.Map.{keys_of}
 use Rattle.mt_tree.specs.declared.command.AdminCmd.{AdminCmd}
+use Rattle.mt_tree.specs.declared.command.AdminCmd.TheVariants.{SetQuota}
+use Rattle.mt_catslot.specs.declared.slot.Class.TheVariants as classes
+use Rattle.mt_catslot.specs.declared.slot.CatKey.{CatKey}
+use Rattle.mt_catslot.specs.declared.slot.CatKey.TheVariants as keys
 use Rattle.mt_catalog.specs.State.{State}
-use Rattle.mt_schema.specs.Refusals.{first_holding, quota_tests, step_refusal}
+use Rattle.mt_schema.specs.Changed.{changed_keys, column_keys, extended_keys}
+use Rattle.mt_schema.specs.Refusals.{extension_named, first_holding, quota_tests, step_refusal}
 use Rattle.mt_schema.proofs.Accepted.{kept_number}
+use Rattle.mt_schema.proofs.Tenants.{of_each}
 use Rattle.mt_schema.proofs.changed.changed_keys.Goals as goal
 
 pub overflow_cast-tenant-in-SetQuota : goal.overflow_cast-tenant-in-SetQuota
@@ -15,16 +24,33 @@ overflow_cast-tenant-in-SetQuota c =
     omega (arith, fits)
 
 pub returns-in-CreateExtension : goal.returns-in-CreateExtension
-returns-in-CreateExtension c = ?
+returns-in-CreateExtension c =
+    let state : State = c.args.catalog.now in
+    let made : ℕ → ℕ → List CatKey = λ number count. keys.Relation classes.Extension number ∷ column_keys classes.Extension number count in
+    let number_is : c.len-number.result ≡ length state.extensions = c.len-number.ensures ∙ ap (λ (of : State). length of.extensions) c.catalog.view_is in
+    let same = ap (λ (n : ℕ). made n c.len-in-CreateExtension.result) number_is ∙ ap (made (length state.extensions)) c.len-in-CreateExtension.ensures in
+    of_each state c.args.step.now c.relation_keys.result (made c.len-number.result c.len-in-CreateExtension.result) c.relation_keys.ensures
+    (same ∙ sym (ap (changed_keys state (keys_of (finite.entries state.tenants))) c.in-CreateExtension.is))
 
 pub returns-in-CreateTenant : goal.returns-in-CreateTenant
-returns-in-CreateTenant c = ?
+returns-in-CreateTenant c =
+    let state : State = c.args.catalog.now in
+    let made : ℕ → List CatKey = λ count. keys.Tenant c.in-CreateTenant.tenant ∷ map (λ base. keys.Placement c.in-CreateTenant.tenant base) (range_with_len 0 count) in
+    let count_is : c.len-in-CreateTenant.result ≡ length state.bases = c.len-in-CreateTenant.ensures ∙ ap (λ (of : State). length of.bases) c.catalog.view_is in
+    of_each state c.args.step.now c.tenant_keys.result (made c.len-in-CreateTenant.result) c.tenant_keys.ensures
+    (ap made count_is ∙ sym (ap (changed_keys state (keys_of (finite.entries state.tenants))) c.in-CreateTenant.is))
 
 pub returns-in-Extend : goal.returns-in-Extend
-returns-in-Extend c = ?
+returns-in-Extend c =
+    let state : State = c.args.catalog.now in
+    of_each state c.args.step.now c.extended_keys.result (extended_keys state c.in-Extend.tenant (extension_named state c.in-Extend.extension)) c.extended_keys.ensures
+    (sym (ap (changed_keys state (keys_of (finite.entries state.tenants))) c.in-Extend.is))
 
 pub returns-in-SetQuota : goal.returns-in-SetQuota
-returns-in-SetQuota c = ?
+returns-in-SetQuota c =
+    let state : State = c.args.catalog.now in
+    of_each state c.args.step.now c.quota_keys.result (changed_keys state (keys_of (finite.entries state.tenants)) (SetQuota c.in-SetQuota.tenant c.in-SetQuota.quota)) c.quota_keys.ensures
+    (sym (ap (changed_keys state (keys_of (finite.entries state.tenants))) c.in-SetQuota.is))
 
 pub returns-in_default : goal.returns-in_default
-returns-in_default c = ?
+returns-in_default c = let h = c.in_default.not-CreateTable in let k = c.in_default.not-Extend in ?
