@@ -23,11 +23,13 @@ few_of_extension state name base defs accepted = few_defs defs (or_parts _ _ (no
 upto : (from most n : ℕ) → is_within from most n ≡ true → n ≤ most
 upto from most n e = leb-true n most (and_parts _ _ e).1
 
+fits : (n : ℕ) → n ≤ 4294967295 → n < 2 ^ 32
+fits n few = omega arith
+
 pub new_number : (state : State) (tenant quota : ℕ) → first_holding (tenant_tests state tenant quota) ≡ None → tenant < 2 ^ 32
 new_number state tenant quota accepted =
     let limits = or_parts _ _ (none_holds (tenant_tests state tenant quota) accepted).1.0 in
-    let number : tenant ≤ 4294967295 = upto 1 4294967295 tenant (not-false _ (or_parts _ _ limits.0).1) in
-    omega (arith, number)
+    fits tenant (upto 1 4294967295 tenant (not-false _ (or_parts _ _ limits.0).1))
 
 pub extended_number : (state : State) (tenant : ℕ) (name : List ℕ) → IsCatalogue state → first_holding (extend_tests state tenant (extension_named state name)) ≡ None → tenant < 2 ^ 32
 extended_number state tenant name rules accepted =

@@ -1,10 +1,11 @@
 -- By the kinds of steps.
-use Rattle.std.proofs.Common.{◌≡◌, ℕ, List, ◌∷◌, length, map, None, sym, ap, ◌∙◌, arith}
+use Rattle.std.proofs.Common.{◌≡◌, ℕ, List, [], ◌∷◌, length, map, None, refl, sym, ap, ◌∙◌, arith}
 use Rattle.std.specs.FinMap as finite
 use Rattle.std.specs.List.{range_with_len}
 use Rattle.std.specs.Map.{keys_of}
 use Rattle.mt_tree.specs.declared.command.AdminCmd.{AdminCmd}
-use Rattle.mt_tree.specs.declared.command.AdminCmd.TheVariants.{SetQuota}
+use Rattle.mt_tree.specs.declared.command.AdminCmd.TheVariants.{CreateTable, CreateExtension, CreateTenant, Extend, SetQuota}
+use Rattle.mt_tree.specs.declared.command.Def.{Def}
 use Rattle.mt_catslot.specs.declared.slot.Class.TheVariants as classes
 use Rattle.mt_catslot.specs.declared.slot.CatKey.{CatKey}
 use Rattle.mt_catslot.specs.declared.slot.CatKey.TheVariants as keys
@@ -12,7 +13,7 @@ use Rattle.mt_catalog.specs.State.{State}
 use Rattle.mt_schema.specs.Changed.{changed_keys, column_keys, extended_keys}
 use Rattle.mt_schema.specs.Refusals.{extension_named, first_holding, quota_tests, step_refusal}
 use Rattle.mt_schema.proofs.Accepted.{kept_number}
-use Rattle.mt_schema.proofs.Tenants.{of_each}
+use Rattle.mt_schema.proofs.Tenants.{every_tenant, of_each}
 use Rattle.mt_schema.proofs.changed.changed_keys.Goals as goal
 
 pub overflow_cast-tenant-in-SetQuota : goal.overflow_cast-tenant-in-SetQuota
@@ -52,5 +53,27 @@ returns-in-SetQuota c =
     of_each state c.args.step.now c.quota_keys.result (changed_keys state (keys_of (finite.entries state.tenants)) (SetQuota c.in-SetQuota.tenant c.in-SetQuota.quota)) c.quota_keys.ensures
     (sym (ap (changed_keys state (keys_of (finite.entries state.tenants))) c.in-SetQuota.is))
 
+-- another command changes no key
+none_changed : (state : State) (tenants : List ℕ) (step : AdminCmd)
+    → ((name : List ℕ) (columns : List Def) (key : List (List ℕ)) → step ≡ CreateTable name columns key → ⊥)
+    → ((name base : List ℕ) (columns : List Def) → step ≡ CreateExtension name base columns → ⊥)
+    → ((tenant quota : ℕ) → step ≡ CreateTenant tenant quota → ⊥)
+    → ((tenant : ℕ) (extension : List ℕ) → step ≡ Extend tenant extension → ⊥)
+    → ((tenant quota : ℕ) → step ≡ SetQuota tenant quota → ⊥) → [] ≡ changed_keys state tenants step
+none_changed state tenants (CreateTable name columns key) table extension made extend set = absurd (table name columns key refl)
+none_changed state tenants (CreateExtension name base columns) table extension made extend set = absurd (extension name base columns refl)
+none_changed state tenants (CreateTenant tenant quota) table extension made extend set = absurd (made tenant quota refl)
+none_changed state tenants (Extend tenant name) table extension made extend set = absurd (extend tenant name refl)
+none_changed state tenants (SetQuota tenant quota) table extension made extend set = absurd (set tenant quota refl)
+none_changed state tenants step table extension made extend set = refl
+
 pub returns-in_default : goal.returns-in_default
-returns-in_default c = let h = c.in_default.not-CreateTable in let k = c.in_default.not-Extend in ?
+returns-in_default c =
+    let state : State = c.args.catalog.now in
+    let tenants : List ℕ = keys_of (finite.entries state.tenants) in
+    let not = c.in_default in
+    (
+      tenants,
+      every_tenant state,
+      c.new.ensures ∙ none_changed state tenants c.args.step.now not.not-CreateTable not.not-CreateExtension not.not-CreateTenant not.not-Extend not.not-SetQuota,
+    )
