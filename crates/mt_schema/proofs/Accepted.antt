@@ -1,6 +1,5 @@
 -- What a step that is not refused is bounded by: its tenant is one, and its columns are few.
 use Rattle.std.proofs.Common.{◌≡◌, ℕ, ◌<◌, ◌≤◌, ◌^◌, false, true, List, length, None, arith}
-use Rattle.std.specs.Prelude.{is_some}
 use Rattle.std.specs.FinMap as finite
 use Rattle.std.proofs.lemmas.Bool.{and_parts, leb-true, ltb-false, not-false, or_parts}
 use Rattle.mt_tree.specs.declared.command.Def.{Def}

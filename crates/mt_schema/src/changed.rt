@@ -75,11 +75,7 @@ fn relation_keys(
 }
 
 /// The keys of a new base table of so many columns, of which each tenant gets a table.
-fn table_keys(
-    alloc: Global,
-    catalog: &Catalog,
-    columns: u32,
-) -> Result<List<CatKey>, AllocError>
+fn table_keys(alloc: Global, catalog: &Catalog, columns: u32) -> Result<List<CatKey>, AllocError>
     requires few { length catalog.now.bases ≤ 16 }
     ensures { IfOk result (λ changed. (tenants : Members ℕ) × spec.AreTenants tenants catalog.now
         × (changed ≡ keys.Relation classes.BaseTable (length catalog.now.bases) ∷ (spec.column_keys classes.BaseTable (length catalog.now.bases) columns ++ map (λ tenant. keys.Placement tenant (length catalog.now.bases)) tenants))) }

@@ -143,10 +143,8 @@ fn is_body(body: &[u8], wanted: &[u8]) -> bool {
 fn are_bodies(bodies: &CatBodies, wanted: &[Body]) -> bool {
     let bodies = bodies.as_slice();
     bodies.len() == wanted.len()
-        && bodies
-            .iter()
-            .zip(wanted.iter())
-            .all(|(body, want)| body.0 == want.0 && is_body(body.1.as_slice(), want.1))
+        && bodies.iter().zip(wanted.iter()).all(|(body, want)| body.0 == want.0
+            && is_body(body.1.as_slice(), want.1))
 }
 
 /// The catalogue of an empty disk.
@@ -179,12 +177,7 @@ fn change(
 }
 
 /// The catalogue after a step.
-fn take(
-    rt: &impl Abort,
-    alloc: Global,
-    catalog: Catalog,
-    line: Line,
-) -> Result<Catalog, Fail>
+fn take(rt: &impl Abort, alloc: Global, catalog: Catalog, line: Line) -> Result<Catalog, Fail>
     requires { IsCatalogue catalog }
     ensures { IfOk result (λ next. IsCatalogue next) }
 {
@@ -213,8 +206,11 @@ fn refusal_of(
 }
 
 /// A base table with a key.
-const ITEM: Line =
-    Table("item", &[("id", Integer, false), ("label", Varchar(20), false)], &["id"]);
+const ITEM: Line = Table(
+    "item",
+    &[("id", Integer, false), ("label", Varchar(20), false)],
+    &["id"],
+);
 
 /// An extension of it.
 const EXTRA: Line = Extension("extra", "item", &[("price", Integer, false)]);
@@ -248,10 +244,7 @@ const STEPS: [(Line, &[Body], &[Body]); 8] = [
     ),
     (
         Extend(7, "extra"),
-        &[
-            (12, b"\x07"),
-            (13, b"\x07\0\0\0\0\0\0\0\0\x02\0\0\0\x01"),
-        ],
+        &[(12, b"\x07"), (13, b"\x07\0\0\0\0\0\0\0\0\x02\0\0\0\x01")],
         &[],
     ),
     (Quota(7, 10), &[], &[]),
@@ -308,13 +301,33 @@ const REFUSED: [(Line, u64, Code); 18] = [
     (Table("other", &[A], &["b"]), 0, Code::UnknownName),
     (Table("item", &[A], &["b"]), 0, Code::UnknownName),
     (Table("item", &[A, A], &[]), 0, Code::NameExists),
-    (Table("other", &[A, ("a", Varchar(0), false)], &[]), 0, Code::ColumnNameTaken),
+    (
+        Table("other", &[A, ("a", Varchar(0), false)], &[]),
+        0,
+        Code::ColumnNameTaken,
+    ),
     (Table("other", &[A], &["a", "a"]), 0, Code::ColumnNameTaken),
-    (Table("other", &[("a", Varchar(121), false)], &[]), 0, Code::Limit),
+    (
+        Table("other", &[("a", Varchar(121), false)], &[]),
+        0,
+        Code::Limit,
+    ),
     (Extension("extra", "none", &[A]), 0, Code::UnknownName),
-    (Extension("extra", "item", &[("label", Integer, false)]), 0, Code::NameExists),
-    (Extension("other", "item", &[("label", Integer, false)]), 0, Code::ColumnNameTaken),
-    (Extension("other", "item", &[("a", Varchar(0), false)]), 0, Code::Limit),
+    (
+        Extension("extra", "item", &[("label", Integer, false)]),
+        0,
+        Code::NameExists,
+    ),
+    (
+        Extension("other", "item", &[("label", Integer, false)]),
+        0,
+        Code::ColumnNameTaken,
+    ),
+    (
+        Extension("other", "item", &[("a", Varchar(0), false)]),
+        0,
+        Code::Limit,
+    ),
     (Tenant(7, 0), 0, Code::NameExists),
     (Tenant(4_294_967_296, 1), 0, Code::Limit),
     (Tenant(9, 65_537), 0, Code::Limit),
@@ -370,18 +383,18 @@ fn numbered(alloc: Global, number: u32) -> Result<(String, String), AllocError> 
 }
 
 /// The catalogue in which an extension of one column with this number is there.
-fn extended(
-    rt: &impl Abort,
-    alloc: Global,
-    catalog: Catalog,
-    number: u32,
-) -> Result<Catalog, Fail>
+fn extended(rt: &impl Abort, alloc: Global, catalog: Catalog, number: u32) -> Result<Catalog, Fail>
     requires { IsCatalogue catalog }
     ensures { IfOk result (λ next. IsCatalogue next) }
 {
     let (name, column) = numbered(alloc, number)?;
     let columns = [(column.as_str(), Integer, false)];
-    take(rt, alloc, catalog, Extension(name.as_str(), "item", &columns))
+    take(
+        rt,
+        alloc,
+        catalog,
+        Extension(name.as_str(), "item", &columns),
+    )
 }
 
 /// A tenant whose table has sixteen chunks, and one extension more.
@@ -417,7 +430,10 @@ const MOVING: [(u8, &[u8]); 6] = [
     (8, b"\0\0\0\0\x01\0\0\0\0\x05extra"),
     (9, b"\x01\0\0\0\0\0\0\0\0\x01\0\0\0\x05price"),
     (10, b"\x07\0\0\0\x0a"),
-    (11, b"\x07\0\0\0\0\0\0\0\x09\0\0\0\0\0\0\0\x01\0\x02\0\0\0\0\0\0\0\x09"),
+    (
+        11,
+        b"\x07\0\0\0\0\0\0\0\x09\0\0\0\0\0\0\0\x01\0\x02\0\0\0\0\0\0\0\x09",
+    ),
 ];
 
 /// Adds a body, with zeros behind these bytes up to its width.

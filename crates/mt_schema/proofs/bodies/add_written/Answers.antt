@@ -22,7 +22,7 @@ returns-in_ok-push-in-Some c = λ slots are.
     let there : slot_of state c.args.key ≡ Some slot = sym c.in_ok-slot_of.ensures ∙ c.in-Some.is in
     let pushed : c.push.new.self ≡ bodies ++ (c.table.result, body) ∷ [] = c.in_ok-push-in-Some.ensures.ok in
     let bodies_are : c.push.new.self ≡ bodies ++ (table_of slot, body_of slot) ∷ [] =
-        pushed ∙ ap (λ (table : ℕ). bodies ++ (table, body) ∷ []) c.table.ensures ∙ ap (λ (of : List ℕ). bodies ++ (table_of slot, of) ∷ []) c.in_ok-body-in-Some.ensures in
+    pushed ∙ ap (λ (table : ℕ). bodies ++ (table, body) ∷ []) c.table.ensures ∙ ap (λ (of : List ℕ). bodies ++ (table_of slot, of) ∷ []) c.in_ok-body-in-Some.ensures in
     let slots_are : slots ++ cons_option (slot_of state c.args.key) [] ≡ slots ++ slot ∷ [] = ap (λ (o : Option CatSlot). slots ++ cons_option o []) there in
     subst (λ (of : List (ℕ × List ℕ)). AreWritten of (slots ++ cons_option (slot_of state c.args.key) [])) (sym bodies_are)
     (subst (λ (of : List CatSlot). AreWritten (bodies ++ (table_of slot, body_of slot) ∷ []) of) (sym slots_are) (more_written bodies slots slot are (sayable_at state c.args.key slot c.requires there)))

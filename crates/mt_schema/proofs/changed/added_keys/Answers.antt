@@ -1,6 +1,5 @@
 -- By the rules of the table.
-use Rattle.std.proofs.Common.{◌≡◌, ℕ, ◌≤◌, List, length, Some, sym, ap, ◌∙◌, arith}
-use Rattle.mt_catslot.specs.declared.slot.CatKey.{CatKey}
+use Rattle.std.proofs.Common.{◌≡◌, ℕ, Some, sym, ap, ◌∙◌, arith}
 use Rattle.mt_catalog.specs.declared.state.TenantTable.{TenantTable}
 use Rattle.mt_catalog.specs.State.{State, tenant_table}
 use Rattle.mt_schema.specs.Changed.{table_keys}

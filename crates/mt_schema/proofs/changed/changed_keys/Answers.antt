@@ -71,8 +71,7 @@ pub returns-in_default : goal.returns-in_default
 returns-in_default c =
     let state : State = c.args.catalog.now in
     let tenants : List ℕ = keys_of (finite.entries state.tenants) in
-    let not = c.in_default in
-    (
+    let not = c.in_default in (
       tenants,
       every_tenant state,
       c.new.ensures ∙ none_changed state tenants c.args.step.now not.not-CreateTable not.not-CreateExtension not.not-CreateTenant not.not-Extend not.not-SetQuota,

@@ -17,10 +17,9 @@ returns c =
     let entries : List (ℕ × TenantEntry) = c.catalog.inside.tenants.entries in
     let number : ℕ = c.len-number.result in
     let is : finite.from_entries entries ≡ state.tenants = ap (λ (of : State). of.tenants) c.catalog.view_is in
-    let number_is : number ≡ length state.bases = c.len-number.ensures ∙ ap (λ (of : State). length of.bases) c.catalog.view_is in
-    (
+    let number_is : number ≡ length state.bases = c.len-number.ensures ∙ ap (λ (of : State). length of.bases) c.catalog.view_is in (
       keys_of entries,
       listed_tenants state entries is c.in_ok-add_tables.ensures.once,
       c.in_ok-add_tables.ensures.ok ∙ ap (λ (of : List CatKey). of ++ map (λ tenant. keys.Placement tenant number) (keys_of entries)) c.in_ok-changed.ensures
-      ∙ ap (λ (n : ℕ). keys.Relation classes.BaseTable n ∷ (column_keys classes.BaseTable n c.args.columns ++ map (λ tenant. keys.Placement tenant n) (keys_of entries))) number_is,
+          ∙ ap (λ (n : ℕ). keys.Relation classes.BaseTable n ∷ (column_keys classes.BaseTable n c.args.columns ++ map (λ tenant. keys.Placement tenant n) (keys_of entries))) number_is,
     )

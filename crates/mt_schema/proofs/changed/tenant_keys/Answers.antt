@@ -1,5 +1,5 @@
 -- One table more.
-use Rattle.std.proofs.Common.{◌≡◌, ℕ, List, [], ◌∷◌, ◌++◌, sym, ap, ◌∙◌, arith}
+use Rattle.std.proofs.Common.{ℕ, List, [], ◌∷◌, ◌++◌, sym, ap, ◌∙◌, arith}
 use Rattle.std.proofs.lemmas.List.FromFn.{map-range_with_len_more}
 use Rattle.mt_catslot.specs.declared.slot.CatKey.{CatKey}
 use Rattle.mt_catslot.specs.declared.slot.CatKey.TheVariants as keys
