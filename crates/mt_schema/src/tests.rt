@@ -11,7 +11,7 @@ use crate::{StepFault, accept, prepare};
 use mt_catalog::{CatBodies, Catalog, read_catalog};
 use mt_lexer::is_name;
 use mt_list::List;
-use mt_rowfile::{Head, Layout, check_slot, slot_width};
+use mt_rowfile::{CatBody, Head, Layout, check_slot, slot_width};
 use mt_tree::DefKind::{Integer, Varchar};
 use mt_tree::{AdminCmd, Code, Def, DefKind, Names};
 use mt_value::Str;
@@ -436,6 +436,27 @@ const MOVING: [(u8, &[u8]); 6] = [
     ),
 ];
 
+/// A body, with zeros behind these bytes up to its width.
+fn padded(rt: &impl Abort, alloc: Global, table: u8, bytes: &[u8]) -> Result<CatBody, Fail>
+    ensures from { OnOk result (8 ≤ table) }
+    ensures upto { OnOk result (table ≤ 13) }
+    ensures width { IfOk result (λ body. length body ≡ body_width table) }
+    ensures readable { IfOk result (λ body. IsBody table body) }
+{
+    assert!(rt; 8 <= table);
+    assert!(rt; table <= 13);
+    let layout = Layout {
+        head: Head::Catalogue(table),
+        kinds: List::new(alloc),
+    };
+    let mut slot = Vec::from_slice(alloc, &[1])?;
+    slot.extend_from_slice(bytes)?;
+    slot.resize(slot_width(&layout), 0)?;
+    assert!(rt; check_slot(&layout, slot.as_slice()));
+    assert!(rt; slot[0] != 0);
+    Ok(List::from_vec(Vec::from_slice(alloc, &slot[1..])?))
+}
+
 /// Adds a body, with zeros behind these bytes up to its width.
 fn add_body(
     rt: &impl Abort,
@@ -451,19 +472,8 @@ fn add_body(
     ensures widths { OnOk result (All (λ body. length body.1 ≡ body_width body.0) bodies.new) }
     ensures readable { OnOk result (All (λ body. IsBody body.0 body.1) bodies.new) }
 {
-    assert!(rt; 8 <= table);
-    assert!(rt; table <= 13);
-    let layout = Layout {
-        head: Head::Catalogue(table),
-        kinds: List::new(alloc),
-    };
-    let mut slot = Vec::from_slice(alloc, &[1])?;
-    slot.extend_from_slice(bytes)?;
-    slot.resize(slot_width(&layout), 0)?;
-    assert!(rt; check_slot(&layout, slot.as_slice()));
-    assert!(rt; slot[0] != 0);
-    let body = Vec::from_slice(alloc, &slot[1..])?;
-    bodies.push((u32::from(table), List::from_vec(body)))?;
+    let body = padded(rt, alloc, table, bytes)?;
+    bodies.push((u32::from(table), body))?;
     Ok(())
 }
 

@@ -3,4 +3,4 @@ use Rattle.mt_catalog.specs.Rules.{IsCatalogue}
 use Rattle.mt_schema.proofs.tests.changed.Given as goal
 
 abbrev pub invariant-loop-line : goal.invariant-loop-line
-invariant-loop-line l = IsCatalogue l.catalog
+invariant-loop-line g l = IsCatalogue l.catalog

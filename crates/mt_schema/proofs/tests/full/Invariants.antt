@@ -3,4 +3,4 @@ use Rattle.mt_catalog.specs.Rules.{IsCatalogue}
 use Rattle.mt_schema.proofs.tests.full.Given as goal
 
 abbrev pub invariant-loop-tenant : goal.invariant-loop-tenant
-invariant-loop-tenant l = IsCatalogue l.catalog
+invariant-loop-tenant g l = IsCatalogue l.catalog
