@@ -1,3 +1,4 @@
+pub mod Accepted
 pub mod CanExtend
 pub mod ChangedQuota
 pub mod Changes
@@ -6,6 +7,7 @@ pub mod Counted
 pub mod Defined
 pub mod ExtendedSlots
 pub mod ExtendedTable
+pub mod Grown
 pub mod KeepsRules
 pub mod MadeExtension
 pub mod MadeTable
@@ -14,6 +16,7 @@ pub mod Maps
 pub mod Names
 pub mod NewTable
 pub mod Numbered
+pub mod Preparing
 pub mod Put
 pub mod Quotas
 pub mod Refused
@@ -26,5 +29,7 @@ pub mod Sayable
 pub mod SayableTables
 pub mod Stays
 pub mod TenantNumbers
+pub mod Tenants
 pub mod Totals
 pub mod Turning
+pub mod WrittenSlots

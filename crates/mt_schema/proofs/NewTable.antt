@@ -14,7 +14,7 @@ use Rattle.mt_fold.specs.Placements.{IsValidPlacement}
 use Rattle.mt_catalog.specs.State.{State, base_columns}
 use Rattle.mt_catalog.specs.Slots.{column_in_fold, extended_slot, field_slot, placed_slot}
 use Rattle.mt_catalog.specs.Rules.{AreApart, IsBase, IsTenantTable, column_names}
-use Rattle.mt_catalog.proofs.Extensions.{Extends}
+use Rattle.mt_catalog.specs.Clauses.{Extends}
 use Rattle.mt_schema.specs.Steps.{new_table}
 
 -- a column of a fold with all its columns in the conventional row has no slot
@@ -65,7 +65,7 @@ new_table_is state base table there is =
     let few = is.columns.few in
     record {
       made = omega arith;
-      extended = All-nil (Extends state base);
+      extended = All-nil (Extends state.extensions base);
       few = subst (λ of. length of ≤ 32) (sym columns) (omega (arith, few));
       apart = subst (λ of. AreApart (column_names of)) (sym columns) is.columns.apart;
       placement = subst (λ of. IsValidPlacement (new_table table).placement of (length (base_columns (slice_get state.bases base)))) (sym columns)

@@ -12,7 +12,7 @@ use Rattle.mt_catalog.specs.declared.state.TenantEntry.{TenantEntry}
 use Rattle.mt_catalog.specs.declared.state.TenantTable.{TenantTable}
 use Rattle.mt_catalog.specs.State.{State, base_columns, extended_columns, extension_columns}
 use Rattle.mt_catalog.specs.Rules.{AreApart, IsCatalogue, IsTenant, IsTenantTable, MovesMade, column_names}
-use Rattle.mt_catalog.proofs.Extensions.{Extends}
+use Rattle.mt_catalog.specs.Clauses.{Extends}
 use Rattle.mt_schema.specs.Refusals.{quota_of}
 use Rattle.mt_schema.specs.Steps.{extended_placement, stepped}
 use Rattle.mt_schema.proofs.CanExtend.{CanExtend, base_len, columns_before, entry_after, kept_table, stepped_is, table_after, valid_after}
@@ -65,7 +65,7 @@ module _ (state : State) (rules : IsCatalogue state) (tenant : ℕ) (name : List
       let size = length-append columns added in
       record {
         made = kept.made;
-        extended = All-push (Extends state base) can.table.extended can.number kept.extended (can.extension, can.extension_is, refl);
+        extended = All-push (Extends state.extensions base) can.table.extended can.number kept.extended (can.extension, can.extension_is, refl);
         few = subst (λ of. length of ≤ 32) (sym columns_are) (omega (arith, few, size));
         apart = subst (λ of. AreApart (column_names of)) (sym columns_are)
             (subst AreApart (sym (map-append (λ column. column.name) columns added)) (no_repeat_apart (column_names columns ++ column_names added) can.apart));

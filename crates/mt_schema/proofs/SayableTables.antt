@@ -25,7 +25,8 @@ use Rattle.mt_catalog.specs.Slots.{HasSlot, column_in_fold, extended_slot, field
 use Rattle.mt_catalog.specs.Rules.{IsCatalogue}
 use Rattle.mt_catalog.specs.Found.{IsOf}
 use Rattle.mt_catalog.proofs.Chunks.{table_keeps}
-use Rattle.mt_catalog.proofs.Extensions.{Extends, few_numbers}
+use Rattle.mt_catalog.specs.Clauses.{Extends}
+use Rattle.mt_catalog.proofs.Extensions.{few_numbers}
 use Rattle.mt_catalog.proofs.Limits.{member_keeps}
 use Rattle.mt_catalog.proofs.Runs.{present}
 use Rattle.mt_schema.proofs.Sayable.{column_is_sayable, relation_is_sayable, tenant_is_sayable}
@@ -127,7 +128,7 @@ module _ (state : State) (rules : IsCatalogue state) where
       at table f (Some number) g h =
           let within = is_within tenant base table (finite.get state.tenants tenant) refl f in
           let is = table_keeps (slot_of state) state own tenant base table f in
-          let extends = member_keeps (Extends state base) table.extended position number is.extended g in
+          let extends = member_keeps (Extends state.extensions base) table.extended position number is.extended g in
           let small = within.1 in
           let few = few_numbers (slot_of state) state own base tenant table f in
           let position_is = slice_get_within table.extended position number g in

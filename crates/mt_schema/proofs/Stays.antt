@@ -9,7 +9,7 @@ use Rattle.mt_catalog.specs.declared.state.TenantEntry.{TenantEntry}
 use Rattle.mt_catalog.specs.declared.state.TenantTable.{TenantTable}
 use Rattle.mt_catalog.specs.State.{State, base_columns, extended_columns, extension_columns}
 use Rattle.mt_catalog.specs.Rules.{AreApart, IsExtension, IsTenant, IsTenantTable, column_names}
-use Rattle.mt_catalog.proofs.Extensions.{Extends}
+use Rattle.mt_catalog.specs.Clauses.{Extends}
 
 pub extension_stays : (state after : State) (extension : Extension) → slice_get after.bases extension.base ≡ slice_get state.bases extension.base → length state.bases ≤ length after.bases
     → IsExtension state extension → IsExtension after extension
@@ -26,21 +26,21 @@ extension_stays state after extension same more is =
 module _ (state after : State) (base : ℕ) (same : slice_get after.bases base ≡ slice_get state.bases base)
     (stay : (number : ℕ) (extension : Extension) → slice_get state.extensions number ≡ Some extension → slice_get after.extensions number ≡ Some extension) where
   -- the columns of the extensions
-  columns_behind : (numbers : List ℕ) → All (Extends state base) numbers
+  columns_behind : (numbers : List ℕ) → All (Extends state.extensions base) numbers
       → flat_map (λ number. extension_columns (slice_get after.extensions number)) numbers ≡ flat_map (λ number. extension_columns (slice_get state.extensions number)) numbers
   columns_behind [] all = refl
   columns_behind (number ∷ numbers) all =
-      let there = All-head (Extends state base) number numbers all in
+      let there = All-head (Extends state.extensions base) number numbers all in
       let one = ap extension_columns (stay number there.0 there.1 ∙ sym there.1) in
       ap (λ columns. columns ++ flat_map (λ n. extension_columns (slice_get after.extensions n)) numbers) one
-      ∙ ap (λ columns. extension_columns (slice_get state.extensions number) ++ columns) (columns_behind numbers (All-tail (Extends state base) number numbers all))
+      ∙ ap (λ columns. extension_columns (slice_get state.extensions number) ++ columns) (columns_behind numbers (All-tail (Extends state.extensions base) number numbers all))
 
-  pub columns_stay : (numbers : List ℕ) → All (Extends state base) numbers → extended_columns after base numbers ≡ extended_columns state base numbers
+  pub columns_stay : (numbers : List ℕ) → All (Extends state.extensions base) numbers → extended_columns after base numbers ≡ extended_columns state base numbers
   columns_stay numbers all =
       ap (λ of. base_columns of ++ flat_map (λ number. extension_columns (slice_get after.extensions number)) numbers) same
       ∙ ap (λ columns. base_columns (slice_get state.bases base) ++ columns) (columns_behind numbers all)
 
-  pub extends_stay : (number : ℕ) → Extends state base number → Extends after base number
+  pub extends_stay : (number : ℕ) → Extends state.extensions base number → Extends after.extensions base number
   extends_stay number there = (there.0, stay number there.0 there.1, there.2)
 
   pub table_stays : (table : TenantTable) → IsTenantTable state base table → IsTenantTable after base table
@@ -48,7 +48,7 @@ module _ (state after : State) (base : ℕ) (same : slice_get after.bases base �
       let columns = columns_stay table.extended is.extended in
       record {
         made = is.made;
-        extended = All-weaker (Extends state base) (Extends after base) extends_stay table.extended is.extended;
+        extended = All-weaker (Extends state.extensions base) (Extends after.extensions base) extends_stay table.extended is.extended;
         few = subst (λ of. length of ≤ 32) (sym columns) is.few;
         apart = subst (λ of. AreApart (column_names of)) (sym columns) is.apart;
         placement = subst (λ of. IsValidPlacement table.placement of (length (base_columns (slice_get after.bases base)))) (sym columns)

@@ -7,16 +7,16 @@ use Rattle.std.proofs.lemmas.List.{length-map}
 use Rattle.std.proofs.lemmas.List.Sums.{sum_by-cons}
 use Rattle.mt_schema.specs.Steps.{in_each}
 
-less_is : (order : Ordering) → T (is_lt order) → order ≡ Less
+pub less_is : (order : Ordering) → T (is_lt order) → order ≡ Less
 less_is Less less = refl
 less_is Equal less = absurd less
 less_is Greater less = absurd less
 
-first_of : (a b : Bool) → T (a && b) → T a
+pub first_of : (a b : Bool) → T (a && b) → T a
 first_of true b both = tt
 first_of false b both = both
 
-second_of : (a b : Bool) → T (a && b) → T b
+pub second_of : (a b : Bool) → T (a && b) → T b
 second_of true b both = both
 second_of false b both = absurd both
 

@@ -4,12 +4,18 @@
 //! those of the one after.
 #![tactic(auto)]
 
+mod bodies;
+mod changed;
 mod copies;
 mod definitions;
 mod laws;
 mod prepared;
 mod refusals;
+mod slots;
 mod steps;
 
 pub use laws::{changed_slots_turn_the_catalogue, schema_steps_keep_the_rules, slots_are_sayable};
 pub use prepared::{CatRows, Prepared, StepFault, accept, prepare};
+
+#[cfg(test)]
+mod tests;

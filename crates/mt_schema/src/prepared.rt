@@ -6,6 +6,10 @@ ghost use Rattle.mt_schema.specs.Prepared.{IsPrepared};
 ghost use Rattle.mt_schema.specs.Refusals.{step_refusal};
 ghost use Rattle.mt_schema.specs.Steps.{IsWellFormed};
 
+use crate::bodies::written;
+use crate::changed::changed_keys;
+use crate::refusals::refusal;
+use crate::steps::stepped;
 use mt_catalog::{CatBodies, Catalog};
 use mt_list::List;
 use mt_tree::{AdminCmd, Code};
@@ -61,7 +65,16 @@ pub fn prepare(
     ensures prepared { IfOk result (λ prepared. IsPrepared catalog.now kept step.now prepared) }
     ensures refused { (code : Refusal) → result ≡ Err (faults.Refused code) → step_refusal catalog.now (λ tenant. kept) step.now ≡ Some code }
 {
-    Err(StepFault::Memory)
+    if let Some(code) = refusal(alloc, catalog, kept, step)? {
+        return Err(StepFault::Refused(code));
+    }
+    let next = stepped(alloc, catalog, step)?;
+    let changed = changed_keys(alloc, catalog, step)?;
+    let rows = CatRows {
+        put: written(alloc, &next, changed.as_slice())?,
+        removed: written(alloc, catalog, changed.as_slice())?,
+    };
+    Ok(Prepared { next, rows })
 }
 
 /// Makes a prepared catalogue the value. It takes no memory.
