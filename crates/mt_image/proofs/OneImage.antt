@@ -1,5 +1,5 @@
 -- A disk holds one catalogue, or has one first damage.
-use Rattle.std.proofs.Common.{◌≡◌, ◌⊎◌, inl, inr, ℕ, zero, suc, ◌<◌, ◌≤◌, Bool, true, false, nat_lt, Option, Some, None, List, [], ◌∷◌, map, refl, sym, ap, ◌∙◌, subst, absurd, arith}
+use Rattle.std.proofs.Common.{◌≡◌, ◌⊎◌, inl, inr, ℕ, zero, suc, ◌<◌, ◌≤◌, Bool, true, false, nat_lt, Option, Some, None, List, [], ◌∷◌, map, refl, sym, ap, ◌∙◌, subst, arith, ltb-true, ltb-false}
 use Rattle.std.specs.Prelude.{filter_map}
 use Rattle.mt_machine.specs.declared.machine.Area.TheVariants.{Log}
 use Rattle.mt_machine.specs.Meaning.{Disk}
@@ -51,9 +51,12 @@ module _ (fits : ℕ → Type 0) (count : ℕ) where
   one_unfit page other first second = by (nat_lt page other) (nat_lt other page) refl refl
     where
       by : (a b : Bool) → nat_lt page other ≡ a → nat_lt other page ≡ b → page ≡ other
-      by true b e f = absurd (not_before page other first second (omega (arith, e)))
-      by false true e f = absurd (not_before other page second first (omega (arith, f)))
-      by false false e f = omega (arith, e, f)
+      by true b e f = absurd (not_before page other first second (ltb-true page other e))
+      by false true e f = absurd (not_before other page second first (ltb-true other page f))
+      by false false e f =
+          let upper = ltb-false page other e in
+          let lower = ltb-false other page f in
+          omega (arith, upper, lower)
 
   not_unfit : (page : ℕ) → FirstUnfit fits count page → AllFit fits count → ⊥
   not_unfit page first all = first.unfit (all page first.from first.within)
@@ -74,7 +77,7 @@ one_of_rows : (pages : Area) (state : State) (a b : Damage) → AtRows pages sta
 one_of_rows pages state a b (inl (page, e, first)) (inl (other, f, second)) = e ∙ ap damage.Page (one_unfit (FitsBase state pages) (page_count pages) page other first second) ∙ sym f
 one_of_rows pages state a b (inl (page, e, first)) (inr (f, all, none)) = absurd (not_unfit (FitsBase state pages) (page_count pages) page first all)
 one_of_rows pages state a b (inr (e, all, none)) (inl (page, f, first)) = absurd (not_unfit (FitsBase state pages) (page_count pages) page first all)
-one_of_rows pages state a b (inr (e, all, none)) (inr (f, more, no)) = e ∙ sym f
+one_of_rows pages state a b (inr (e, all, none)) (inr (f, more, never)) = e ∙ sym f
 
 -- the check of the catalogue
 abbrev AtCatalogue : Area → Damage → Type 0
@@ -89,7 +92,7 @@ at_catalogue pages (damage.Page page) (state, is, fails) = inr (state, is, at_ro
 at_catalogue pages damage.Rows (state, is, fails) = inr (state, is, at_rows pages state damage.Rows fails)
 
 one_of_catalogue : (pages : Area) (a b : Damage) → AtCatalogue pages a → AtCatalogue pages b → a ≡ b
-one_of_catalogue pages a b (inl (e, none)) (inl (f, no)) = e ∙ sym f
+one_of_catalogue pages a b (inl (e, none)) (inl (f, never)) = e ∙ sym f
 one_of_catalogue pages a b (inl (e, none)) (inr (state, is, at)) = absurd (none state is)
 one_of_catalogue pages a b (inr (state, is, at)) (inl (f, none)) = absurd (none state is)
 one_of_catalogue pages a b (inr (state, is, at)) (inr (other, same, more)) =
@@ -126,7 +129,7 @@ at_zero pages damage.Catalogue (is, fails) = inr (is, at_pages pages damage.Cata
 at_zero pages damage.Rows (is, fails) = inr (is, at_pages pages damage.Rows fails)
 
 one_of_zero : (pages : Area) (a b : Damage) → AtZero pages a → AtZero pages b → a ≡ b
-one_of_zero pages a b (inl (e, none)) (inl (f, no)) = e ∙ sym f
+one_of_zero pages a b (inl (e, none)) (inl (f, never)) = e ∙ sym f
 one_of_zero pages a b (inl (e, none)) (inr (is, at)) = absurd (none is)
 one_of_zero pages a b (inr (is, at)) (inl (f, none)) = absurd (none is)
 one_of_zero pages a b (inr (is, at)) (inr (more, same)) = one_of_pages pages a b at same
