@@ -1,5 +1,6 @@
 -- The layouts that a catalogue calls for are ones that tables can have.
-use Rattle.std.proofs.Common.{◌≡◌, ℕ, ◌-◌, ◌≤◌, Bool, true, false, nat_le, Option, Some, None, List, length, map, refl, sym, ap, arith, length-map}
+use Rattle.std.proofs.Common.{◌≡◌, ℕ, ◌-◌, ◌≤◌, Bool, true, false, nat_le, Option, Some, None, List, length, map, refl, sym, ap, arith}
+use Rattle.std.proofs.lemmas.List.{length-map}
 use Rattle.std.specs.Prelude.{IfSome, if◌then◌else◌, option_map, slice_get}
 use Rattle.mt_rowfile.specs.declared.layout.Layout.{Layout}
 use Rattle.mt_rowfile.specs.declared.layout.Head.TheVariants.{Conventional}
@@ -20,7 +21,7 @@ IsOfBase layout = (layout.head ≡ Conventional) × IsLayout layout
 base_layout : (table : Table) → IsBase table → IsOfBase (conventional_layout table)
 base_layout table is =
     let few = is.columns.few in
-    (refl, record { few = omega (arith, few, length-map (λ (column : Column). conventional_kind column.kind) table.columns); head_fits = tt })
+    (refl, record { few = omega (arith, few, length-map table.columns (λ (column : Column). conventional_kind column.kind)); head_fits = tt })
 
 pub catalogue_known : (state : State) → IsCatalogue state → AreKnown (known_of state)
 catalogue_known state is table = by (nat_le 16 table)

@@ -1,9 +1,10 @@
 -- The slots of pages that hold a catalogue can be read by its layouts, and no two have one key.
-use Rattle.std.proofs.Common.{◌≡◌, ◌⊎◌, inl, inr, ℕ, zero, suc, ◌+◌, ◌-◌, ◌*◌, ◌<◌, ◌≤◌, Bool, true, false, nat_le, ◌&&◌, ◌==◌, slice_index, Option, Some, None, List, [], ◌∷◌, ◌++◌, length, drop, map, filter_map, refl, sym, ap, ◌∙◌, subst, arith, map-append}
+use Rattle.std.proofs.Common.{◌≡◌, ◌⊎◌, inl, inr, ℕ, zero, suc, ◌+◌, ◌-◌, ◌*◌, ◌<◌, ◌≤◌, Bool, true, false, nat_le, ◌&&◌, ◌==◌, slice_index, Option, Some, None, List, [], ◌∷◌, ◌++◌, length, drop, map, filter_map, refl, sym, ap, ◌∙◌, subst, arith}
+use Rattle.std.proofs.lemmas.List.{map-append}
 use Rattle.std.proofs.lemmas.Bool.{le-leb}
 use Rattle.std.proofs.lemmas.List.Elements.{All-nil, All-cons, All-head, All-tail, All-append, All-map, filter_map-append}
 use Rattle.std.specs.Prelude.{IfSome, if◌then◌else◌, flat_map}
-use Rattle.std.specs.List.{All, range_with_len}
+use Rattle.std.specs.List.{All, cons_option, range_with_len}
 use Rattle.std.specs.Ordering.{eq_by_cmp, is_eq}
 use Rattle.std.specs.declared.cmp.Ordering.{Ordering}
 use Rattle.std.specs.declared.cmp.Ordering.TheVariants.{Less, Equal, Greater}
@@ -95,9 +96,9 @@ all_below : (P : TableSlot → Type 0) (known : KnownLayouts) (pages : Area) (fr
 all_below P known pages from zero each = All-nil P
 all_below P known pages from (suc count) each =
     let here = each from (omega arith) (omega arith) in
-    let rest = all_below P known pages (suc from) count (λ page low high. each page (omega (arith, low)) (omega (arith, high))) in
-    subst (All P) (sym (map-append (slot_at (sizes_of known) pages) (page_places (sizes_of known) pages from) (flat_map (page_places (sizes_of known) pages) (range_with_len (suc from) count))))
-    (All-append P (slots_on known pages from) (map (slot_at (sizes_of known) pages) (flat_map (page_places (sizes_of known) pages) (range_with_len (suc from) count))) here rest)
+    let rest = all_below P known pages (from + 1) count (λ page low high. each page (omega (arith, low)) (omega (arith, high))) in
+    subst (All P) (sym (map-append (slot_at (sizes_of known) pages) (page_places (sizes_of known) pages from) (flat_map (page_places (sizes_of known) pages) (range_with_len (from + 1) count))))
+    (All-append P (slots_on known pages from) (map (slot_at (sizes_of known) pages) (flat_map (page_places (sizes_of known) pages) (range_with_len (from + 1) count))) here rest)
 
 pub held_readable : (pages : Area) (state : State) → Holds pages state → All (IsReadableSlot (known_of state)) (slots_below (sizes_of (known_of state)) (page_count pages) pages)
 held_readable pages state holds =
@@ -133,7 +134,7 @@ module _ (pages : Area) (page : ℕ) (known other : KnownLayouts) where
       (All-map (λ place. body_in (slot_at (sizes_of k) pages place) ≡ None) (place_in (sizes_of k) (table_at pages page) page) (range_with_len 0 (slot_count_by (layout_of k (table_at pages page))))
       (all_silent (range_with_len 0 (slot_count_by (layout_of k (table_at pages page)))))))
     where
-      abbrev bytes : ℕ → List ℕ
+      bytes : ℕ → List ℕ
       bytes number = bytes_at pages (slot_position (width_by (layout_of k (table_at pages page))) page number) (width_by (layout_of k (table_at pages page)))
 
       all_silent : (numbers : List ℕ) → All (λ number. body_in (table_at pages page, bytes number) ≡ None) numbers
@@ -158,42 +159,42 @@ same_bodies_below : (pages : Area) (known other : KnownLayouts) (from count : �
     ≡ filter_map body_in (map (slot_at (sizes_of other) pages) (flat_map (page_places (sizes_of other) pages) (range_with_len from count)))
 same_bodies_below pages known other from zero = refl
 same_bodies_below pages known other from (suc count) =
-    parted known ∙ ap (λ front. front ++ behind known) (same_bodies_on pages from known other) ∙ ap (λ back. filter_map body_in (slots_on other pages from) ++ back) (same_bodies_below pages known other (suc from) count) ∙ sym (parted other)
+    parted known ∙ ap (λ front. front ++ behind known) (same_bodies_on pages from known other) ∙ ap (λ back. filter_map body_in (slots_on other pages from) ++ back) (same_bodies_below pages known other (from + 1) count) ∙ sym (parted other)
   where
-    abbrev behind : KnownLayouts → List ((ℕ × List ℕ) × Unit {0})
-    behind k = filter_map body_in (map (slot_at (sizes_of k) pages) (flat_map (page_places (sizes_of k) pages) (range_with_len (suc from) count)))
+    behind : KnownLayouts → List ((ℕ × List ℕ) × Unit {0})
+    behind k = filter_map body_in (map (slot_at (sizes_of k) pages) (flat_map (page_places (sizes_of k) pages) (range_with_len (from + 1) count)))
 
     parted : (k : KnownLayouts) → filter_map body_in (map (slot_at (sizes_of k) pages) (flat_map (page_places (sizes_of k) pages) (range_with_len from (suc count)))) ≡ filter_map body_in (slots_on k pages from) ++ behind k
     parted k =
-        ap (filter_map body_in) (map-append (slot_at (sizes_of k) pages) (page_places (sizes_of k) pages from) (flat_map (page_places (sizes_of k) pages) (range_with_len (suc from) count)))
-        ∙ filter_map-append body_in (slots_on k pages from) (map (slot_at (sizes_of k) pages) (flat_map (page_places (sizes_of k) pages) (range_with_len (suc from) count)))
+        ap (filter_map body_in) (map-append (slot_at (sizes_of k) pages) (page_places (sizes_of k) pages from) (flat_map (page_places (sizes_of k) pages) (range_with_len (from + 1) count)))
+        ∙ filter_map-append body_in (slots_on k pages from) (map (slot_at (sizes_of k) pages) (flat_map (page_places (sizes_of k) pages) (range_with_len (from + 1) count)))
 
 pub same_bodies : (pages : Area) (known other : KnownLayouts) (count : ℕ) → filter_map body_in (slots_below (sizes_of known) count pages) ≡ filter_map body_in (slots_below (sizes_of other) count pages)
 same_bodies pages known other count = same_bodies_below pages known other 1 (count - 1)
 
 -- no two of the entries have one key
-KeysApart : {K V : Type 0} → (K → K → Ordering) → List (K × V) → Type 0
+abbrev KeysApart : {K V : Type 0} → (K → K → Ordering) → List (K × V) → Type 0
 KeysApart R [] = Unit {0}
 KeysApart R (entry ∷ entries) = All (λ other. eq_by_cmp R entry.0 other.0 ≡ false) entries × KeysApart R entries
 
 module _ {S K V : Type 0} (R : K → K → Ordering) (read : S → Option (K × V)) where
   none_says : (key : K) (slots : List S) → All (λ other. eq_by_cmp R key other.0 ≡ false) (filter_map read slots) → NoneSays R read key slots
   none_says key [] h = tt
-  none_says key (slot ∷ slots) h = by (read slot) refl h
+  none_says key (slot ∷ slots) h = by (read slot) (none_says key slots) h
     where
-      by : (found : Option (K × V)) → read slot ≡ found → All (λ other. eq_by_cmp R key other.0 ≡ false) (filter_map read (slot ∷ slots)) → Misses R key (read slot) × NoneSays R read key slots
-      by None e all = rw e at all (rw e (tt, none_says key slots all))
-      by (Some entry) e all =
-          rw e at all
-          (rw e (All-head (λ other. eq_by_cmp R key other.0 ≡ false) entry (filter_map read slots) all, none_says key slots (All-tail (λ other. eq_by_cmp R key other.0 ≡ false) entry (filter_map read slots) all)))
+      by : (found : Option (K × V)) → (All (λ other. eq_by_cmp R key other.0 ≡ false) (filter_map read slots) → NoneSays R read key slots)
+          → All (λ other. eq_by_cmp R key other.0 ≡ false) (cons_option found (filter_map read slots)) → Misses R key found × NoneSays R read key slots
+      by None rest all = (tt, rest all)
+      by (Some entry) rest all =
+          (All-head (λ other. eq_by_cmp R key other.0 ≡ false) entry (filter_map read slots) all, rest (All-tail (λ other. eq_by_cmp R key other.0 ≡ false) entry (filter_map read slots) all))
 
   unique_of_apart : (slots : List S) → KeysApart R (filter_map read slots) → AreUnique R read slots
   unique_of_apart [] h = tt
-  unique_of_apart (slot ∷ slots) h = by (read slot) refl h
+  unique_of_apart (slot ∷ slots) h = by (read slot) (unique_of_apart slots) h
     where
-      by : (found : Option (K × V)) → read slot ≡ found → KeysApart R (filter_map read (slot ∷ slots)) → NoneSaysIts R read (read slot) slots × AreUnique R read slots
-      by None e apart = rw e at apart (rw e (tt, unique_of_apart slots apart))
-      by (Some entry) e apart = rw e at apart (rw e (none_says entry.0 slots apart.0, unique_of_apart slots apart.1))
+      by : (found : Option (K × V)) → (KeysApart R (filter_map read slots) → AreUnique R read slots) → KeysApart R (cons_option found (filter_map read slots)) → NoneSaysIts R read found slots × AreUnique R read slots
+      by None rest apart = (tt, rest apart)
+      by (Some entry) rest apart = (none_says entry.0 slots apart.0, rest apart.1)
 
 equal_by : (o : Ordering) → is_eq o ≡ true → o ≡ Equal
 equal_by Less e = cc
