@@ -1,5 +1,5 @@
 -- A disk of zeros holds the catalogue without tables and tenants.
-use Rattle.std.proofs.Common.{◌≡◌, ◌⊎◌, inl, inr, ℕ, ◌<◌, ◌≤◌, List, [], Option, Some, None, length, replicate, refl, sym, ap, ◌∙◌, arith, Bool, true, false, is_some}
+use Rattle.std.proofs.Common.{◌≡◌, inl, ℕ, [], Some, None, refl, sym, ap, ◌∙◌, arith, Bool, true, false, is_some}
 use Rattle.std.proofs.lemmas.List.{get_or-replicate, length-replicate, nil_from_length}
 use Rattle.std.proofs.lemmas.List.Elements.{All-nil}
 use Rattle.std.specs.List.{IsDistinct}
@@ -7,8 +7,6 @@ use Rattle.std.specs.Ordering.{nat_cmp}
 use Rattle.std.specs.FinMap as finite
 use Rattle.mt_machine.specs.Meaning.{Disk}
 use Rattle.mt_journal.specs.Layout.{Area}
-use Rattle.mt_journal.specs.Replay.{Replays}
-use Rattle.mt_pages.specs.Control.{IsPageZero}
 use Rattle.mt_physplan.specs.declared.key.Key.{Key}
 use Rattle.mt_physplan.specs.Keys.{key_cmp}
 use Rattle.mt_catslot.specs.declared.slot.CatKey.{CatKey}
@@ -21,7 +19,7 @@ use Rattle.mt_catalog.specs.Rules.{IsBase, IsCatalogue, IsExtension, quota_total
 use Rattle.mt_catalog.specs.Slots.{HasSlot, slot_of}
 use Rattle.mt_catalog.specs.State.{empty_state, table_in}
 use Rattle.mt_image.specs.Image.{Holds, IsHeld}
-use Rattle.mt_image.specs.Rules.{IsCatalogueOf, KeepRowRules, content_of}
+use Rattle.mt_image.specs.Rules.{IsCatalogueOf, content_of}
 
 abbrev blank : Area
 blank position = 0

@@ -1,10 +1,9 @@
 -- Worked examples: tables that there are, a blank page, and the layouts that a catalogue calls for.
-use Rattle.std.proofs.Common.{◌≡◌, ◌⊎◌, inl, inr, ℕ, ◌≤◌, true, false, Some, None, List, [], ◌∷◌, refl, arith}
+use Rattle.std.proofs.Common.{◌≡◌, inl, inr, true, false, Some, None, [], ◌∷◌, refl, arith}
 use Rattle.std.specs.FinMap as finite
 use Rattle.mt_codec.specs.declared.field.FieldKind.TheVariants.{Int, Text}
 use Rattle.mt_rowfile.specs.declared.layout.Head.TheVariants.{Conventional}
 use Rattle.mt_rowfile.specs.Layouts.{slot_width, slots_per_page}
-use Rattle.mt_tree.specs.declared.schema.Column.{Column}
 use Rattle.mt_tree.specs.declared.schema.Kind.TheVariants.{Integer, Varchar}
 use Rattle.mt_tree.specs.declared.schema.Table.{Table}
 use Rattle.mt_catalog.specs.State.{State}

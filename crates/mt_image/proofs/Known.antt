@@ -1,5 +1,5 @@
 -- The layouts that a catalogue calls for are ones that tables can have.
-use Rattle.std.proofs.Common.{◌≡◌, ℕ, ◌-◌, ◌≤◌, Bool, true, false, nat_le, Option, Some, None, List, length, map, refl, sym, ap, arith}
+use Rattle.std.proofs.Common.{◌≡◌, ◌-◌, Bool, true, false, nat_le, Option, Some, None, refl, arith}
 use Rattle.std.proofs.lemmas.List.{length-map}
 use Rattle.std.specs.Prelude.{IfSome, if◌then◌else◌, option_map, slice_get}
 use Rattle.mt_rowfile.specs.declared.layout.Layout.{Layout}

@@ -1,5 +1,5 @@
 -- A disk holds one catalogue, or has one first damage.
-use Rattle.std.proofs.Common.{◌≡◌, ◌⊎◌, inl, inr, ℕ, zero, suc, ◌<◌, ◌≤◌, Bool, true, false, nat_lt, Option, Some, None, List, [], ◌∷◌, map, refl, sym, ap, ◌∙◌, subst, arith, ltb-true, ltb-false}
+use Rattle.std.proofs.Common.{◌≡◌, ◌⊎◌, inl, inr, ℕ, zero, suc, ◌<◌, Bool, true, false, nat_lt, Option, Some, List, [], ◌∷◌, map, refl, sym, ap, ◌∙◌, subst, arith, ltb-true, ltb-false}
 use Rattle.std.specs.Prelude.{filter_map}
 use Rattle.mt_machine.specs.declared.machine.Area.TheVariants.{Log}
 use Rattle.mt_machine.specs.Meaning.{Disk}

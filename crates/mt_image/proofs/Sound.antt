@@ -1,5 +1,5 @@
 -- The slots of pages that hold a catalogue can be read by its layouts, and no two have one key.
-use Rattle.std.proofs.Common.{◌≡◌, ◌⊎◌, inl, inr, ℕ, zero, suc, ◌+◌, ◌-◌, ◌*◌, ◌<◌, ◌≤◌, Bool, true, false, nat_le, ◌&&◌, ◌==◌, slice_index, Option, Some, None, List, [], ◌∷◌, ◌++◌, length, drop, map, filter_map, refl, sym, ap, ◌∙◌, subst, arith}
+use Rattle.std.proofs.Common.{◌≡◌, ◌⊎◌, inl, inr, ℕ, zero, suc, ◌+◌, ◌-◌, ◌<◌, ◌≤◌, Bool, true, false, nat_le, ◌&&◌, ◌==◌, slice_index, Option, Some, None, List, [], ◌∷◌, ◌++◌, drop, map, filter_map, refl, sym, ap, ◌∙◌, subst, arith}
 use Rattle.std.proofs.lemmas.List.{map-append}
 use Rattle.std.proofs.lemmas.Bool.{le-leb}
 use Rattle.std.proofs.lemmas.List.Elements.{All-nil, All-cons, All-head, All-tail, All-append, All-map, filter_map-append}
@@ -14,7 +14,7 @@ use Rattle.mt_rowfile.specs.Layouts.{chunk_layout}
 use Rattle.mt_rowfile.specs.Slots.{IsSlot}
 use Rattle.mt_physplan.specs.Applied.{body_cmp}
 use Rattle.mt_tables.specs.Pages.{bytes_at, page_count, page_places, place_in, slot_position, table_at}
-use Rattle.mt_tables.specs.Rows.{ArePages, IsReadableSlot, KnownLayouts, body_in, catalogue_layout, is_of_catalogue, layout_of, row_in, sizes_of, slot_count_by, width_by}
+use Rattle.mt_tables.specs.Rows.{ArePages, IsReadableSlot, KnownLayouts, body_in, catalogue_layout, is_of_catalogue, layout_of, sizes_of, slot_count_by, width_by}
 use Rattle.mt_tables.specs.Tables.{TableSlot, slot_at, slots_below}
 use Rattle.mt_tables.specs.Unique.{AreUnique, Misses, NoneSays, NoneSaysIts}
 use Rattle.mt_tables.proofs.Bodies.{bodies_exact}
@@ -25,7 +25,6 @@ use Rattle.mt_catalog.specs.State.{State}
 use Rattle.mt_image.specs.Fits.{FitsBase, FitsPage, slots_on}
 use Rattle.mt_image.specs.Image.{Holds}
 use Rattle.mt_image.specs.Layouts.{known_of, none_known}
-use Rattle.mt_image.specs.Rules.{bodies_of}
 
 -- what holds of what a list is made into holds of its members so
 All-made : {X Y : Type 0} (P : X → Type 0) (f : Y → X) (ys : List Y) → All P (map f ys) → All (λ y. P (f y)) ys
