@@ -1,5 +1,5 @@
 -- What a group keeps from one change to the next.
-use Rattle.std.proofs.Common.{◌≡◌, ℕ, zero, suc, ◌+◌, ◌*◌, ◌^◌, ◌<◌, ◌≤◌, Bool, true, false, cond, nat_eq, List, [], ◌∷◌, ◌++◌, length, drop, map, slice_index, sum_by, Option, None, Some, refl, sym, ap, ◌∙◌, arith, subst, length-append}
+use Rattle.std.proofs.Common.{◌≡◌, ℕ, ◌+◌, ◌*◌, ◌^◌, ◌<◌, ◌≤◌, Bool, true, false, cond, nat_eq, List, [], ◌∷◌, ◌++◌, length, drop, map, slice_index, Some, refl, sym, ap, ◌∙◌, arith, subst, length-append}
 use Rattle.std.specs.Prelude.{IsSome, is_some}
 use Rattle.std.proofs.Math.Nat.{add-mul}
 use Rattle.std.proofs.lemmas.Bool.Decides.{nat_tests}
@@ -12,14 +12,14 @@ use Rattle.mt_journal.specs.Replay.{with_ranges}
 use Rattle.mt_rowfile.specs.declared.layout.Layout.{Layout}
 use Rattle.mt_rowfile.specs.Layouts.{slot_width, slots_per_page}
 use Rattle.mt_physplan.specs.declared.change.Change.{Change}
-use Rattle.mt_pages.specs.Control.{control_bytes, page_bytes, page_ranges}
+use Rattle.mt_pages.specs.Control.{page_ranges}
 use Rattle.mt_places.specs.Places.{with_free_page}
 use Rattle.mt_tables.specs.Pages.{slot_position}
 use Rattle.mt_tables.specs.Plan.{without_first}
 use Rattle.mt_tables.specs.Rows.{KnownLayouts, layout_of, sizes_of}
 use Rattle.mt_tables.specs.Rows as layouts
 use Rattle.mt_staging.specs.Group.{GroupState, IsGroup, pages_of}
-use Rattle.mt_staging.specs.Steps.{one_more_of, page_made, with_free}
+use Rattle.mt_staging.specs.Steps.{one_more_of}
 use Rattle.mt_staging.proofs.Lists.{count_by-append, members_with_last, once, same_number, shorter}
 use Rattle.mt_staging.proofs.OneSlot.{one_more}
 use Rattle.mt_staging.proofs.Outside.{length-control_bytes, length-page_bytes, same_table}

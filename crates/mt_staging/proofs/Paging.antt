@@ -6,7 +6,7 @@ use Rattle.std.proofs.lemmas.List.Elements.{All-append, All-replicate}
 use Rattle.mt_journal.specs.Layout.{Area, Range}
 use Rattle.mt_journal.specs.Replay.{with_ranges}
 use Rattle.mt_rowfile.specs.declared.layout.Layout.{Layout}
-use Rattle.mt_rowfile.specs.Layouts.{slot_width, slots_per_page}
+use Rattle.mt_rowfile.specs.Layouts.{slot_width}
 use Rattle.mt_rowfile.specs.Pages.{is_free}
 use Rattle.mt_rowfile.specs.Slots.{IsSlot}
 use Rattle.mt_physplan.specs.declared.change.Change.{Change}
@@ -30,7 +30,7 @@ use Rattle.mt_staging.specs.Group.{GroupState, used_in}
 use Rattle.mt_staging.specs.Steps.{page_made}
 use Rattle.mt_staging.proofs.Lists.{count_by-append, count_by-none, each_with_last, last_member}
 use Rattle.mt_staging.proofs.Outside.{head_blank, heads_before, same_table, with_ranges-append, zero_written}
-use Rattle.mt_staging.proofs.Standing.{Stands, uses}
+use Rattle.mt_staging.proofs.Standing.{Stands}
 
 zero_first : (n : ℕ) → (slice_index (replicate n 0) 0 == 0) ≡ true
 zero_first zero = refl

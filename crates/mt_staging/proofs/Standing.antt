@@ -1,8 +1,6 @@
 -- What stands once the ranges of a group are written, and what one range more does to it.
-use Rattle.std.proofs.Common.{◌≡◌, ℕ, zero, suc, ◌+◌, ◌*◌, ◌<◌, ◌≤◌, ◌&&◌, Bool, true, false, not, cond, nat_eq, List, [], ◌∷◌, ◌++◌, length, get_or, set, slice_index, count_by, All, Option, None, Some, refl, sym, ap, ◌∙◌, arith, subst}
-use Rattle.std.proofs.lemmas.Bool.Decides.{nat_tests}
+use Rattle.std.proofs.Common.{◌≡◌, ℕ, ◌+◌, ◌*◌, ◌<◌, ◌≤◌, ◌&&◌, Bool, not, nat_eq, List, [], ◌∷◌, ◌++◌, length, get_or, set, slice_index, count_by, All, Option, sym, ap, ◌∙◌, arith, subst}
 use Rattle.std.proofs.lemmas.List.Elements.{All-cons, All-get_or, All-head, All-nil, All-set, All-tail}
-use Rattle.std.specs.FinMap as finite
 use Rattle.mt_journal.specs.Layout.{Area, Range}
 use Rattle.mt_journal.specs.Replay.{with_ranges}
 use Rattle.mt_rowfile.specs.Pages.{is_free}
@@ -13,7 +11,7 @@ use Rattle.mt_physplan.specs.Applied.{applied, applied_by, body_cmp, catalogue_a
 use Rattle.mt_physplan.specs.Keys.{key_cmp}
 use Rattle.mt_pages.specs.Control.{IsPageZero}
 use Rattle.mt_tables.specs.Commit.{with_values}
-use Rattle.mt_tables.specs.Pages.{SlotPlace, bytes_at, page_count, table_at}
+use Rattle.mt_tables.specs.Pages.{SlotPlace, page_count, table_at}
 use Rattle.mt_tables.specs.Plan.{IsPlan, Says}
 use Rattle.mt_tables.specs.Rows.{IsReadableSlot, KnownLayouts, body_in, catalogue_of, row_in, rows_of, sizes_of}
 use Rattle.mt_tables.specs.Tables.{TableSlot, overwritten, slot_at, slots_below}
