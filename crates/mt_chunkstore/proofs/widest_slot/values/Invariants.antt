@@ -3,5 +3,5 @@ use Rattle.mt_value.specs.declared.value.Value.TheVariants.{Null}
 use Rattle.mt_chunkstore.proofs.widest_slot.values.Given as goal
 
 -- one NULL for each turn
-abbrev pub invariant-loop-_null : goal.invariant-loop-_null
-invariant-loop-_null l = l.values ≡ replicate l._null Null
+abbrev pub invariant-loop-null : goal.invariant-loop-null
+invariant-loop-null l = l.values ≡ replicate l._null Null
