@@ -1,6 +1,6 @@
 -- A group that was committed, and that the store took over.
-use Rattle.std.proofs.Common.{◌≡◌, ◌⊎◌, inl, inr, ℕ, zero, suc, ◌+◌, ◌-◌, ◌*◌, ◌<◌, ◌≤◌, ◌^◌, ◌&&◌, min, nat_eq, IsTrue, Bool, true, false, List, [], ◌∷◌, ◌++◌, length, map, take, slice_index, append_assoc, refl, sym, ap, subst, ◌∙◌, arith}
-use Rattle.std.specs.Prelude.{All, slice_get, Option, None, Some, count_by, not}
+use Rattle.std.proofs.Common.{◌≡◌, inl, inr, ℕ, zero, suc, ◌+◌, ◌-◌, ◌*◌, ◌<◌, ◌≤◌, ◌^◌, ◌&&◌, min, nat_eq, IsTrue, List, [], ◌∷◌, ◌++◌, length, map, take, slice_index, append_assoc, refl, sym, ap, subst, ◌∙◌, arith}
+use Rattle.std.specs.Prelude.{slice_get, Option, None, Some, count_by, not}
 use Rattle.std.specs.List.{range_with_len}
 use Rattle.std.proofs.Math.Nat.{min-eq_left, min-le_right, mul-le-mul}
 use Rattle.std.proofs.lemmas.List.{length-append, length-map, map-append, take_more}
@@ -13,7 +13,7 @@ use Rattle.mt_machine.specs.Leaves.{Leaves}
 use Rattle.mt_machine.specs.LeavesLaws.{leaves_weaker}
 use Rattle.mt_journal.specs.Commits.{ReplaysToEither, StandsFor}
 use Rattle.mt_journal.specs.Layout.{Area}
-use Rattle.mt_journal.specs.Replay.{Replays, with_ranges}
+use Rattle.mt_journal.specs.Replay.{with_ranges}
 use Rattle.mt_physplan.specs.declared.change.Change.{Change}
 use Rattle.mt_rowfile.specs.declared.layout.Layout.{Layout}
 use Rattle.mt_rowfile.specs.Pages.{is_free}
