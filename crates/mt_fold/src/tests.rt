@@ -391,10 +391,10 @@ fn place_in_copy(alloc: Global, placement: &Placement, row: u64) -> Result<(u8, 
 #[test]
 fn copies_of_moving_placements_hold_the_same(rt: HostRuntime) -> Result<(), Fail> {
     let placement = moving(rt.alloc(), 1, 2, 5)?;
-    for (row, wanted) in [(1, (0, at!(0, 1))), (2, (1, CONV))] {
-        let place = place_in_copy(rt.alloc(), &placement, row)?;
-        assert_eq!(rt; place, wanted, "{row}");
-    }
+    let moved = place_in_copy(rt.alloc(), &placement, 1)?;
+    assert_eq!(rt; moved, (0, at!(0, 1)));
+    let left = place_in_copy(rt.alloc(), &placement, 2)?;
+    assert_eq!(rt; left, (1, CONV));
     Ok(())
 }
 
