@@ -6,7 +6,7 @@ ghost use Rattle.mt_chunkstore.specs.Staged.{IsStaged};
 ghost use Rattle.mt_chunkstore.specs.Standing.{Stands};
 
 use crate::steps::Step::{Put, PutChunk, PutQuota, Remove};
-use crate::steps::{CHUNKS, Fault, ROWS, changes, commit, opened, seen};
+use crate::steps::{CHUNKS, Fault, ROWS, Seen, changes, commit, opened, seen};
 use crate::tests::list_of;
 use crate::{Staged, Store, StoreFault};
 use mt_list::List;
@@ -69,11 +69,18 @@ fn stopped_in(
 fn left_in<M: Machine>(m: &mut M, alloc: Global) -> Result<Left, Fault> {
     let rows = seen(m, alloc, &ROWS)?;
     let chunks = seen(m, alloc, &CHUNKS)?;
-    Ok(match (rows.as_slice(), chunks.as_slice()) {
-        ([(0, 1, 5)], []) => Left::Nothing,
-        ([(1, 1, 5)], [(4, 1, 5)]) => Left::Whole,
-        _ => Left::Part,
-    })
+    Ok(left_of(rows.as_slice(), chunks.as_slice()))
+}
+
+/// The same by its Rows and its chunks, each a Row, its mark and its number.
+fn left_of(rows: &[Seen], chunks: &[Seen]) -> Left {
+    if rows == [(0, 1, 5)].as_slice() && chunks.is_empty() {
+        return Left::Nothing;
+    }
+    if rows == [(1, 1, 5)].as_slice() && chunks == [(4, 1, 5)].as_slice() {
+        return Left::Whole;
+    }
+    Left::Part
 }
 
 /// How much a stop within a call leaves of that group.

@@ -59,7 +59,7 @@ fn values(alloc: Global) -> Result<List<Value>, AllocError>
     ensures { IfOk result (AreFitting WIDEST) }
 {
     let mut values = List::new(alloc);
-    for _null in 0..16 {
+    for _null in 0..16usize {
         values.push(Value::Null)?;
     }
     values.push(Value::Int(-1))?;
