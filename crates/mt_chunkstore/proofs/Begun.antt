@@ -82,6 +82,8 @@ group_begins known area count changes begun group pages counted upto start walke
       counted = ap page_count none ∙ same;
       tables_stand = λ page some below. ap (λ a. table_at a page) none;
       tables_added = λ i within. absurd (let l = ap length added in omega arith);
+      heads_stand = λ page k some below within. ap (λ (a : Area). a (4096 * page + k)) none;
+      heads_blank = λ i k within low high. absurd (let l = ap length added in omega arith);
       taken = taken;
       filled = λ t.
           let nothing : pages_of t group.added ≡ 0 = ap (pages_of t) added in
@@ -96,6 +98,7 @@ group_begins known area count changes begun group pages counted upto start walke
       readable = λ all puts. subst (λ a. All (IsReadableSlot known) (slots_below sizes (count + length group.added) a)) (sym none) (subst (λ n. All (IsReadableSlot known) (slots_below sizes n area)) (sym here) all);
       page_zero = λ is. subst IsPageZero (sym none) is;
       tables_few = λ i within. absurd (let l = ap length added in omega arith);
+      tables_known = λ i within. absurd (let l = ap length added in omega arith);
       pages_few = omega (arith, here, upto);
       few = (let l = ap length ranges in omega arith);
       short = (let l = ap payload_size ranges in omega arith);

@@ -1,6 +1,6 @@
 -- A group that was committed, and that the store took over.
-use Rattle.std.proofs.Common.{◌≡◌, ◌⊎◌, inl, inr, ℕ, zero, suc, ◌+◌, ◌-◌, ◌*◌, ◌<◌, ◌≤◌, ◌^◌, ◌&&◌, min, nat_eq, IsTrue, Bool, true, false, List, [], ◌∷◌, ◌++◌, length, map, take, slice_index, append_assoc, refl, sym, ap, subst, ◌∙◌, arith}
-use Rattle.std.specs.Prelude.{All, slice_get, Option, None, Some, count_by, not}
+use Rattle.std.proofs.Common.{◌≡◌, inl, inr, ℕ, zero, suc, ◌+◌, ◌-◌, ◌*◌, ◌<◌, ◌≤◌, ◌^◌, ◌&&◌, min, nat_eq, IsTrue, List, [], ◌∷◌, ◌++◌, length, map, take, slice_index, append_assoc, refl, sym, ap, subst, ◌∙◌, arith}
+use Rattle.std.specs.Prelude.{slice_get, Option, None, Some, count_by, not}
 use Rattle.std.specs.List.{range_with_len}
 use Rattle.std.proofs.Math.Nat.{min-eq_left, min-le_right, mul-le-mul}
 use Rattle.std.proofs.lemmas.List.{length-append, length-map, map-append, take_more}
@@ -13,12 +13,12 @@ use Rattle.mt_machine.specs.Leaves.{Leaves}
 use Rattle.mt_machine.specs.LeavesLaws.{leaves_weaker}
 use Rattle.mt_journal.specs.Commits.{ReplaysToEither, StandsFor}
 use Rattle.mt_journal.specs.Layout.{Area}
-use Rattle.mt_journal.specs.Replay.{Replays, with_ranges}
+use Rattle.mt_journal.specs.Replay.{with_ranges}
 use Rattle.mt_physplan.specs.declared.change.Change.{Change}
 use Rattle.mt_rowfile.specs.declared.layout.Layout.{Layout}
 use Rattle.mt_rowfile.specs.Pages.{is_free}
 use Rattle.mt_tables.specs.Pages.{page_count, page_places, place_in, places_below, table_at}
-use Rattle.mt_tables.specs.Rows.{AreKnown, ArePages, KnownLayouts, layout_of, sizes_of}
+use Rattle.mt_tables.specs.Rows.{AreKnown, KnownLayouts, layout_of, sizes_of}
 use Rattle.mt_tables.specs.Rows as layouts
 use Rattle.mt_tables.specs.Tables.{slot_at, slots_below}
 use Rattle.mt_tables.proofs.Places.{pages_places}
@@ -33,7 +33,7 @@ use Rattle.mt_chunkstore.specs.Staged.{Allowed, IsCommitted, IsStaged, StopsWhol
 use Rattle.mt_staging.specs.Group.{used_in}
 use Rattle.mt_chunkstore.specs.Standing.{Stands, used_after}
 use Rattle.mt_chunkstore.proofs.InUse.{slots_few}
-use Rattle.mt_chunkstore.proofs.Chosen.{all_made, group_changed, group_listed, group_sound}
+use Rattle.mt_chunkstore.proofs.Chosen.{all_made, group_changed, group_listed}
 
 -- what the store is after a commit of a group
 pub record IsTaken (group : GroupState) (old new : Store) : Type 0 where
@@ -51,13 +51,6 @@ map_length f (x ∷ xs) = let h = map_length f xs in omega (arith, h)
 append_length : (xs ys : List ℕ) → length (xs ++ ys) ≡ length xs + length ys
 append_length [] ys = omega arith
 append_length (x ∷ xs) ys = let h = append_length xs ys in omega (arith, h)
-
-listed_all : (tables : List ℕ) → ((i : ℕ) → i < length tables → slice_index tables i < 32) → map listed_table tables ≡ tables
-listed_all [] few = refl
-listed_all (table ∷ tables) few =
-    let first : listed_table table ≡ table = (let h = few 0 (omega arith) in grind (arith, h)) in
-    let rest = listed_all tables (λ i within. few (suc i) (omega arith)) in
-    λ i. first i ∷ rest i
 
 slice_get_within : (xs : List ℕ) (j x : ℕ) → slice_get xs j ≡ Some x → j < length xs
 slice_get_within [] j x is = cc
@@ -124,7 +117,6 @@ module _ (changes : List Change) (group : GroupState) (old_store new_store : Sto
     directory = λ tells.
         taken.tables
         ∙ ap (λ tables. tables ++ map listed_table group.added) (before.directory (told tells))
-        ∙ ap (λ added. directory_of old_store.pages (old.content Pages) ++ added) (listed_all group.added (group_is tells).tables_few)
         ∙ sym (group_listed (known_in old_store.layouts) old_store.pages (old.content Pages) changes group (group_is tells) taken.some)
         ∙ ap (λ area. directory_of (old_store.pages + length group.added) area) (sym (written tells))
         ∙ ap (λ n. directory_of n (new.content Pages)) (sym taken.pages);
@@ -150,25 +142,28 @@ module _ (changes : List Change) (group : GroupState) (old_store new_store : Sto
         taken.used table low ∙ omega (arith, m, was, both) ∙ sym now;
   }
 
+  changed_then : IsTrue new.tells → AreChanged (known_in old_store.layouts) changes (old.content Pages) (new.content Pages)
+  changed_then tells = subst (AreChanged (known_in old_store.layouts) changes (old.content Pages)) (sym (written tells))
+      (group_changed (known_in old_store.layouts) old_store.pages (old.content Pages) changes group (group_is tells) (before.pages.counted (told tells)))
+
   -- the changes were made
   pub committed : IsCommitted changes old_store new_store old new
   committed = record {
     stands = stands_then;
     layouts = taken.layouts;
     scans = taken.scans;
-    changed = λ tells. subst (AreChanged (known_in old_store.layouts) changes (old.content Pages)) (sym (written tells)) (group_changed (known_in old_store.layouts) old_store.pages (old.content Pages) changes group (group_is tells));
+    changed = changed_then;
     pages = λ tells. taken.pages ∙ ap (λ n. old_store.pages + n) (all_made (known_in old_store.layouts) old_store.pages (old.content Pages) changes group (group_is tells));
-    sound = λ tells puts. subst (ArePages (known_in old_store.layouts)) (sym (written tells))
-        (group_sound (known_in old_store.layouts) old_store.pages (old.content Pages) changes group (group_is tells) (before.pages.counted (told tells)) (allowed (told tells)).pages puts);
+    sound = λ tells. (changed_then tells).sound (allowed (told tells)).pages;
   }
 
 -- a stop within a commit leaves the changes whole or absent
-pub stops_whole : (changes : List Change) (group : GroupState) (store : Store) (old new : Meaning) → IsStaged changes group store old → Allowed changes store old
+pub stops_whole : (changes : List Change) (group : GroupState) (store : Store) (old new : Meaning) → Stands store old → IsStaged changes group store old → Allowed changes store old
     → Leaves (ReplaysToEither (old.content Pages) (with_ranges group.ranges (old.content Pages))) old new → Leaves (StopsWhole changes store old) old new
-stops_whole changes group store old new staged allowed leaves = leaves_weaker (StopsWhole changes store old) leaves (λ tells image is. by tells image is)
+stops_whole changes group store old new before staged allowed leaves = leaves_weaker (StopsWhole changes store old) leaves (λ tells image is. by tells image is)
   where
     by : IsTrue new.tells_moments → (image : Disk) → ReplaysToEither (old.content Pages) (with_ranges group.ranges (old.content Pages)) image → StopsWhole changes store old image
-    by tells image (inl before) = inl before
+    by tells image (inl absent) = inl absent
     by tells image (inr after) =
         let told = leaves.told (leaves.told_moments tells).1 in
-        inr (with_ranges group.ranges (old.content Pages), after, group_changed (known_in store.layouts) store.pages (old.content Pages) changes group (staged.made told (allowed told)))
+        inr (with_ranges group.ranges (old.content Pages), after, group_changed (known_in store.layouts) store.pages (old.content Pages) changes group (staged.made told (allowed told)) (before.pages.counted told))

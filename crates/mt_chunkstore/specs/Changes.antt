@@ -1,6 +1,6 @@
 -- Changes of the pages of a store: which may be made, how many new pages they need, and what pages
 -- hold once they are made.
-use Rattle.std.specs.Prelude.{◌≡◌, ◌⊎◌, ℕ, ◌+◌, ◌-◌, ◌/◌, ◌^◌, ◌≤◌, ◌&&◌, min, nat_eq, true, List, [], ◌∷◌, count_by, sum_by, Some}
+use Rattle.std.specs.Prelude.{◌≡◌, ◌⊎◌, ℕ, ◌+◌, ◌-◌, ◌*◌, ◌/◌, ◌^◌, ◌<◌, ◌≤◌, ◌&&◌, min, nat_eq, true, List, [], ◌∷◌, count_by, sum_by, All, Some, IsSome}
 use Rattle.std.specs.List.{range_with_len}
 use Rattle.std.specs.FinMap as finite
 use Rattle.mt_machine.specs.Meaning.{Disk}
@@ -13,11 +13,12 @@ use Rattle.mt_physplan.specs.declared.change.Change.TheVariants.{Put, Mark, Remo
 use Rattle.mt_physplan.specs.Applied.{Catalogue, applied, applied_by, catalogue_applied, catalogue_applied_by}
 use Rattle.mt_physplan.specs.Content.{Content}
 use Rattle.mt_physplan.specs.Keys.{conventional_key}
-use Rattle.mt_tables.specs.Pages.{SlotSizes}
+use Rattle.mt_tables.specs.Pages.{SlotSizes, page_count, table_at}
 use Rattle.mt_tables.specs.Rows.{ArePages, KnownLayouts, catalogue_of, layout_of, rows_of, sizes_of}
 use Rattle.mt_tables.specs.Tables.{slots_below}
 use Rattle.mt_places.specs.Named.{is_of, is_put, table_of}
-use Rattle.mt_staging.specs.Group.{Suits, new_keys}
+use Rattle.mt_staging.specs.Group.{PutsReadable, Suits, new_keys}
+use Rattle.mt_pages.specs.Control.{IsPageZero}
 
 -- a change of a table with a known layout, which it suits
 pub record IsSuited (known : KnownLayouts) (change : Change) : Type 0 where
@@ -66,10 +67,26 @@ pub record MayChange (known : KnownLayouts) (changes : List Change) (count : ℕ
 abbrev pub free_at_start : KnownLayouts → List Change → ℕ → Area → ℕ → ℕ
 free_at_start known changes count area table = min (count_by (λ change. is_put change && is_of table change) changes) (free_count (sizes_of known) table count area)
 
--- the rows and the catalogue of pages are those of others after changes
+-- how many pages of a table there are
+abbrev pub page_count_of : ℕ → Area → ℕ
+page_count_of table area = count_by (λ page. nat_eq (table_at area page) table) (range_with_len 1 (page_count area - 1))
+
+-- The page is of a table whose layout is known, and its head is blank behind the table's number.
+pub record HasHead (known : KnownLayouts) (area : Area) (page : ℕ) : Type 0 where
+  pub table_known : IsSome (layout_of known (table_at area page))
+  pub blank : (k : ℕ) → 4 ≤ k → k < 8 → area (4096 * page + k) ≡ 0
+
+-- What changes make of pages. Their rows and catalogue are those of before after the changes; each page
+-- of before has its head still, and behind them stand as few new pages of each table as are needed.
 pub record AreChanged (known : KnownLayouts) (changes : List Change) (old new : Area) : Type 0 where
   pub rows : rows_of known new ≡ applied changes (rows_of known old)
   pub catalogue : catalogue_of known new ≡ catalogue_applied changes (catalogue_of known old)
+  pub page_zero : IsPageZero old → IsPageZero new
+  pub count : page_count new ≡ page_count old + all_needed known changes (page_count old) old
+  pub of_tables : (table : ℕ) → page_count_of table new ≡ page_count_of table old + pages_needed known changes (page_count old) old table
+  pub heads_stand : (page k : ℕ) → 1 ≤ page → page < page_count old → k < 8 → new (4096 * page + k) ≡ old (4096 * page + k)
+  pub heads_made : (page : ℕ) → page_count old ≤ page → page < page_count new → HasHead known new page
+  pub sound : ArePages known old → All PutsReadable changes → ArePages known new
 
 -- a stop leaves the pages of before, or ones with the changes made
 abbrev pub IsWholeOrAbsent : KnownLayouts → List Change → Area → Disk → Type 0

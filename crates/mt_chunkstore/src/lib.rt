@@ -23,6 +23,14 @@ pub use stage::Staged;
 pub use store::{Store, StoreFault};
 
 #[cfg(test)]
+mod commits;
+#[cfg(test)]
+mod interrupted;
+#[cfg(test)]
 mod lending;
 #[cfg(test)]
+mod steps;
+#[cfg(test)]
 mod tests;
+#[cfg(test)]
+mod widest_slot;

@@ -25,4 +25,4 @@ pub use validity::{valid, valid_placement};
 #[cfg(test)]
 mod tests;
 #[cfg(test)]
-mod tests_extend;
+mod tests_text;

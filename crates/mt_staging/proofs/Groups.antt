@@ -1,29 +1,28 @@
 -- What a group keeps from one change to the next.
-use Rattle.std.proofs.Common.{◌≡◌, ℕ, zero, suc, ◌+◌, ◌*◌, ◌^◌, ◌<◌, ◌≤◌, Bool, true, false, cond, nat_eq, List, [], ◌∷◌, ◌++◌, length, drop, map, slice_index, sum_by, Option, None, Some, refl, sym, ap, ◌∙◌, arith, subst, length-append}
-use Rattle.std.specs.Prelude.{nat_lt}
-use borrow.Author.Tests.{ltb-true, ltb-false}
+use Rattle.std.proofs.Common.{◌≡◌, ℕ, ◌+◌, ◌*◌, ◌^◌, ◌<◌, ◌≤◌, Bool, true, false, cond, nat_eq, List, [], ◌∷◌, ◌++◌, length, drop, map, slice_index, Some, refl, sym, ap, ◌∙◌, arith, subst, length-append}
+use Rattle.std.specs.Prelude.{IsSome, is_some}
 use Rattle.std.proofs.Math.Nat.{add-mul}
 use Rattle.std.proofs.lemmas.Bool.Decides.{nat_tests}
-use Rattle.std.proofs.lemmas.List.{get_or_append_left, get_or-append-add}
 use Rattle.std.proofs.lemmas.List.Sums.{sum_by-append}
 use Rattle.std.proofs.lemmas.List.FromFn.{length-map-range_with_len}
 use Rattle.std.specs.List.{range_with_len}
 use Rattle.mt_journal.specs.Commits.{payload_size}
 use Rattle.mt_journal.specs.Layout.{Area, Range, range_size}
+use Rattle.mt_journal.specs.Replay.{with_ranges}
 use Rattle.mt_rowfile.specs.declared.layout.Layout.{Layout}
 use Rattle.mt_rowfile.specs.Layouts.{slot_width, slots_per_page}
 use Rattle.mt_physplan.specs.declared.change.Change.{Change}
-use Rattle.mt_pages.specs.Control.{control_bytes, page_bytes, page_ranges}
+use Rattle.mt_pages.specs.Control.{page_ranges}
 use Rattle.mt_places.specs.Places.{with_free_page}
 use Rattle.mt_tables.specs.Pages.{slot_position}
 use Rattle.mt_tables.specs.Plan.{without_first}
 use Rattle.mt_tables.specs.Rows.{KnownLayouts, layout_of, sizes_of}
 use Rattle.mt_tables.specs.Rows as layouts
 use Rattle.mt_staging.specs.Group.{GroupState, IsGroup, pages_of}
-use Rattle.mt_staging.specs.Steps.{one_more_of, page_made, with_free}
-use Rattle.mt_staging.proofs.Lists.{count_by-append, once, same_number, shorter}
+use Rattle.mt_staging.specs.Steps.{one_more_of}
+use Rattle.mt_staging.proofs.Lists.{count_by-append, members_with_last, once, same_number, shorter}
 use Rattle.mt_staging.proofs.OneSlot.{one_more}
-use Rattle.mt_staging.proofs.Outside.{length-control_bytes, length-page_bytes}
+use Rattle.mt_staging.proofs.Outside.{length-control_bytes, length-page_bytes, same_table}
 use Rattle.mt_staging.proofs.Standing.{Stands}
 
 -- what stands of a group
@@ -36,8 +35,9 @@ stands_of known count area start changes group g = record {
   body_changes = g.body_changes;
   bodies = g.bodies;
   counted = g.counted;
-  tables_stand = g.tables_stand;
   tables_added = g.tables_added;
+  heads_stand = g.heads_stand;
+  heads_blank = g.heads_blank;
   taken = g.taken;
   used = g.used;
   page_zero = g.page_zero;
@@ -49,6 +49,7 @@ pub record AreNumbers (known : KnownLayouts) (count : ℕ) (start : ℕ → ℕ)
   pub filled : (t : ℕ) → group.taken t + length (group.places.free t) ≡ start t + pages_of t group.added * (sizes_of known).count t
   pub needed : (t : ℕ) → 1 ≤ pages_of t group.added → length (group.places.free t) < (sizes_of known).count t
   pub tables_few : (i : ℕ) → i < length group.added → slice_index group.added i < 32
+  pub tables_known : (i : ℕ) → i < length group.added → IsSome (layout_of known (slice_index group.added i))
   pub pages_few : count + length group.added ≤ 2 ^ 28
   pub few : length group.ranges ≤ 3 * length changes
   pub short : payload_size group.ranges ≤ 4 + 12324 * length changes
@@ -58,6 +59,7 @@ numbers_of known count area start changes group g = record {
   filled = g.filled;
   needed = g.needed;
   tables_few = g.tables_few;
+  tables_known = g.tables_known;
   pages_few = g.pages_few;
   few = g.few;
   short = g.short;
@@ -74,8 +76,10 @@ group_of_parts known count area start changes group s n = record {
   body_changes = s.body_changes;
   bodies = s.bodies;
   counted = s.counted;
-  tables_stand = s.tables_stand;
+  tables_stand = λ page some low. same_table area (with_ranges group.ranges area) page (λ k within. s.heads_stand page k some low within);
   tables_added = s.tables_added;
+  heads_stand = s.heads_stand;
+  heads_blank = s.heads_blank;
   taken = s.taken;
   used = s.used;
   page_zero = s.page_zero;
@@ -83,6 +87,7 @@ group_of_parts known count area start changes group s n = record {
   filled = n.filled;
   needed = n.needed;
   tables_few = n.tables_few;
+  tables_known = n.tables_known;
   pages_few = n.pages_few;
   few = n.few;
   short = n.short;
@@ -115,6 +120,7 @@ numbers_within known count start changes change old new n w =
           let l = w.no_more t in
           omega (arith, h, l);
       tables_few = λ i within. subst (λ (ts : List ℕ). slice_index ts i < 32) (sym w.added) (n.tables_few i (subst (λ (ts : List ℕ). i < length ts) w.added within));
+      tables_known = λ i within. subst (λ (ts : List ℕ). IsSome (layout_of known (slice_index ts i))) (sym w.added) (n.tables_known i (subst (λ (ts : List ℕ). i < length ts) w.added within));
       pages_few = subst (λ (ts : List ℕ). count + length ts ≤ 2 ^ 28) (sym w.added) n.pages_few;
       few = subst (λ (rs : List Range). length rs ≤ 3 * length (changes ++ change ∷ [])) (sym w.ranges) (let f = n.few in omega (arith, f, longer, more));
       short = subst (λ (rs : List Range). payload_size rs ≤ 4 + 12324 * length (changes ++ change ∷ [])) (sym w.ranges) (let f = n.short in let b = w.short in omega (arith, f, longer, size, b));
@@ -193,7 +199,10 @@ numbers_with_page known count start changes change layout table old new found sm
       needed = λ t some.
           subst (λ (ps : List ℕ). length ps < c t) (sym (w.free t))
           (needs t (free_more known layout table found page old.places.free t) (shorter table t w.position w.behind free w.first) (subst (λ (ts : List ℕ). 1 ≤ pages_of t ts) w.added some) (nat_eq table t) refl);
-      tables_few = λ i within. subst (λ (ts : List ℕ). slice_index ts i < 32) (sym w.added) (tables i (subst (λ (ts : List ℕ). i < length ts) w.added within) (nat_lt i (length old.added)) refl);
+      tables_few = λ i within. subst (λ (ts : List ℕ). slice_index ts i < 32) (sym w.added)
+          (members_with_last (λ t. t < 32) old.added table n.tables_few (omega (arith, small)) i (subst (λ (ts : List ℕ). i < length ts) w.added within));
+      tables_known = λ i within. subst (λ (ts : List ℕ). IsSome (layout_of known (slice_index ts i))) (sym w.added)
+          (members_with_last (λ t. IsSome (layout_of known t)) old.added table n.tables_known (ap is_some found) i (subst (λ (ts : List ℕ). i < length ts) w.added within));
       pages_few = subst (λ (ts : List ℕ). count + length ts ≤ 2 ^ 28) (sym w.added) (omega (arith, room, added_more));
       few = subst (λ (rs : List Range). length rs ≤ 3 * length (changes ++ change ∷ [])) (sym w.ranges) (let f = n.few in omega (arith, f, longer, more, more_page));
       short = subst (λ (rs : List Range). payload_size rs ≤ 4 + 12324 * length (changes ++ change ∷ [])) (sym w.ranges) (let f = n.short in let b = w.short in omega (arith, f, longer, size, size_page, control, whole, b));
@@ -214,13 +223,3 @@ numbers_with_page known count start changes change layout table old new found sm
         let pages : pages_of t (old.added ++ table ∷ []) ≡ pages_of t old.added + 0 = pages_more t table old.added ∙ ap (λ b. pages_of t old.added + once b) e in
         let h = n.needed t (omega (arith, pages, some)) in
         omega (arith, long0, less0, h)
-
-    tables : (i : ℕ) → i < length (old.added ++ table ∷ []) → (b : Bool) → nat_lt i (length old.added) ≡ b → slice_index (old.added ++ table ∷ []) i < 32
-    tables i within true e =
-        let low : i < length old.added = ltb-true i (length old.added) e in
-        subst (λ t. t < 32) (sym (get_or_append_left old.added (table ∷ []) 0 i low)) (n.tables_few i low)
-    tables i within false e =
-        let high : length old.added ≤ i = ltb-false i (length old.added) e in
-        let long = length-append old.added (table ∷ []) in
-        let same : length old.added + 0 ≡ i = omega (arith, high, within, long) in
-        subst (λ t. t < 32) (sym (ap (slice_index (old.added ++ table ∷ [])) (sym same) ∙ get_or-append-add old.added (table ∷ []) 0 0)) (omega (arith, small))

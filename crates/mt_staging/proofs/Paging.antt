@@ -1,14 +1,12 @@
 -- A page more of a table: what stands, with its slots behind all others.
-use Rattle.std.proofs.Common.{◌≡◌, ℕ, zero, suc, ◌+◌, ◌-◌, ◌*◌, ◌^◌, ◌<◌, ◌≤◌, ◌==◌, ◌&&◌, Bool, true, false, not, cond, nat_eq, List, [], ◌∷◌, ◌++◌, length, map, replicate, slice_index, count_by, All, IfSome, Option, None, Some, refl, sym, ap, ◌∙◌, inl, arith, subst, length-append}
-use Rattle.std.specs.Prelude.{nat_lt}
-use borrow.Author.Tests.{ltb-true, ltb-false}
+use Rattle.std.proofs.Common.{◌≡◌, ℕ, zero, suc, ◌+◌, ◌-◌, ◌*◌, ◌^◌, ◌<◌, ◌≤◌, ◌==◌, ◌&&◌, Bool, true, false, not, cond, nat_eq, List, [], ◌∷◌, ◌++◌, length, map, replicate, slice_index, count_by, All, IfSome, Option, None, Some, refl, sym, ap, ◌∙◌, inl, arith, subst}
 use Rattle.std.specs.List.{range_with_len}
-use Rattle.std.proofs.lemmas.List.{get_or_append_left, get_or-append-add, length-replicate}
+use Rattle.std.proofs.lemmas.List.{get_or_append_left, length-replicate}
 use Rattle.std.proofs.lemmas.List.Elements.{All-append, All-replicate}
 use Rattle.mt_journal.specs.Layout.{Area, Range}
 use Rattle.mt_journal.specs.Replay.{with_ranges}
 use Rattle.mt_rowfile.specs.declared.layout.Layout.{Layout}
-use Rattle.mt_rowfile.specs.Layouts.{slot_width, slots_per_page}
+use Rattle.mt_rowfile.specs.Layouts.{slot_width}
 use Rattle.mt_rowfile.specs.Pages.{is_free}
 use Rattle.mt_rowfile.specs.Slots.{IsSlot}
 use Rattle.mt_physplan.specs.declared.change.Change.{Change}
@@ -30,9 +28,9 @@ use Rattle.mt_tables.proofs.Sizes.{sizes_sound}
 use Rattle.mt_tables.proofs.Written.{blank_slot, page_added}
 use Rattle.mt_staging.specs.Group.{GroupState, used_in}
 use Rattle.mt_staging.specs.Steps.{page_made}
-use Rattle.mt_staging.proofs.Lists.{count_by-append, count_by-none}
-use Rattle.mt_staging.proofs.Outside.{heads_before, with_ranges-append, zero_written}
-use Rattle.mt_staging.proofs.Standing.{Stands, uses}
+use Rattle.mt_staging.proofs.Lists.{count_by-append, count_by-none, each_with_last, last_member}
+use Rattle.mt_staging.proofs.Outside.{head_blank, heads_before, same_table, with_ranges-append, zero_written}
+use Rattle.mt_staging.proofs.Standing.{Stands}
 
 zero_first : (n : ℕ) → (slice_index (replicate n 0) 0 == 0) ≡ true
 zero_first zero = refl
@@ -77,18 +75,17 @@ module _ (known : KnownLayouts) (count : ℕ) (area : Area) (changes : List Chan
 
   tables_then : (new : Area) → IsNewPage total table before new → ((i : ℕ) → i < length group.added → table_at before (count + i) ≡ slice_index group.added i) → 1 ≤ count
       → (i : ℕ) → i < length (group.added ++ table ∷ []) → table_at new (count + i) ≡ slice_index (group.added ++ table ∷ []) i
-  tables_then new is added some i within = by (nat_lt i (length group.added)) refl
-    where
-      by : (b : Bool) → nat_lt i (length group.added) ≡ b → table_at new (count + i) ≡ slice_index (group.added ++ table ∷ []) i
-      by true e =
-          let low : i < length group.added = ltb-true i (length group.added) e in
-          heads_before before new table total (count + i) is (omega (arith, some)) (omega (arith, low)) ∙ added i low ∙ sym (get_or_append_left group.added (table ∷ []) 0 i low)
-      by false e =
-          let high : length group.added ≤ i = ltb-false i (length group.added) e in
-          let long : length (group.added ++ table ∷ []) ≡ length group.added + 1 = length-append group.added (table ∷ []) in
-          let same : length group.added + 0 ≡ i = omega (arith, high, within, long) in
-          let page : count + i ≡ total = omega (arith, high, within, long) in
-          ap (table_at new) page ∙ is.head ∙ sym (get_or-append-add group.added (table ∷ []) 0 0) ∙ ap (slice_index (group.added ++ table ∷ [])) same
+  tables_then new is added some = each_with_last (λ i. table_at new (count + i) ≡ slice_index (group.added ++ table ∷ []) i) group.added table
+      (λ i low. same_table before new (count + i) (λ k within. heads_before before new table total (count + i) k is (omega (arith, some)) (omega (arith, low)) within)
+      ∙ added i low ∙ sym (get_or_append_left group.added (table ∷ []) 0 i low))
+      (is.head ∙ sym (last_member group.added table))
+
+  heads_then : (new : Area) → IsNewPage total table before new → ((k : ℕ) → 4 ≤ k → k < 8 → new (4096 * total + k) ≡ 0) → 1 ≤ count
+      → ((i k : ℕ) → i < length group.added → 4 ≤ k → k < 8 → before (4096 * (count + i) + k) ≡ 0)
+      → (i k : ℕ) → i < length (group.added ++ table ∷ []) → 4 ≤ k → k < 8 → new (4096 * (count + i) + k) ≡ 0
+  heads_then new is made some blank i k within low high = each_with_last (λ i. new (4096 * (count + i) + k) ≡ 0) group.added table
+      (λ i inside. heads_before before new table total (count + i) k is (omega (arith, some)) (omega (arith, inside)) high ∙ blank i k inside low high)
+      (made k low high) i within
 
   pub page_stands : Stands known count total area changes group → layout_of known table ≡ Some layout → 1 ≤ count → total < 2 ^ 28 → table ≤ 31
       → Stands known count (total + 1) area changes (page_made layout table count group)
@@ -109,8 +106,9 @@ module _ (known : KnownLayouts) (count : ℕ) (area : Area) (changes : List Chan
             (plan_with_page body_cmp (sizes_of known) (sizes_sound known) body_in (λ k. k.0) total area s.body_values group.ranges more group.places.bodies group.places.free table s.bodies is
             (body_free (blank_slot (sizes_of known) table) (zero_first ((sizes_of known).width table))));
         counted = ap page_count last ∙ counted_then (total + 1) (put_at (4096 * total) (page_bytes table) before) (omega arith) (omega (arith, few));
-        tables_stand = λ page first low. heads_before before new table total page is first (omega (arith, low)) ∙ s.tables_stand page first low;
         tables_added = tables_then new is s.tables_added some;
+        heads_stand = λ page k first low within. heads_before before new table total page k is first (omega (arith, low)) within ∙ s.heads_stand page k first low within;
+        heads_blank = heads_then new is (λ k low high. ap (λ (a : Area). a (4096 * total + k)) last ∙ head_blank before table total k (omega (arith, some)) low high) some s.heads_blank;
         taken = s.taken;
         used = λ t. ap (λ n. n + group.freed t) (page_unused new is t) ∙ s.used t;
         page_zero = λ sound. subst IsPageZero (sym last) (zero_written (total + 1) (put_at (4096 * total) (page_bytes table) before) (omega arith) (omega (arith, few)));

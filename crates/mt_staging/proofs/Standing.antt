@@ -1,8 +1,6 @@
 -- What stands once the ranges of a group are written, and what one range more does to it.
-use Rattle.std.proofs.Common.{◌≡◌, ℕ, zero, suc, ◌+◌, ◌*◌, ◌<◌, ◌≤◌, ◌&&◌, Bool, true, false, not, cond, nat_eq, List, [], ◌∷◌, ◌++◌, length, get_or, set, slice_index, count_by, All, Option, None, Some, refl, sym, ap, ◌∙◌, arith, subst}
-use Rattle.std.proofs.lemmas.Bool.Decides.{nat_tests}
+use Rattle.std.proofs.Common.{◌≡◌, ℕ, ◌+◌, ◌*◌, ◌<◌, ◌≤◌, ◌&&◌, Bool, not, nat_eq, List, [], ◌∷◌, ◌++◌, length, get_or, set, slice_index, count_by, All, Option, sym, ap, ◌∙◌, arith, subst}
 use Rattle.std.proofs.lemmas.List.Elements.{All-cons, All-get_or, All-head, All-nil, All-set, All-tail}
-use Rattle.std.specs.FinMap as finite
 use Rattle.mt_journal.specs.Layout.{Area, Range}
 use Rattle.mt_journal.specs.Replay.{with_ranges}
 use Rattle.mt_rowfile.specs.Pages.{is_free}
@@ -13,7 +11,7 @@ use Rattle.mt_physplan.specs.Applied.{applied, applied_by, body_cmp, catalogue_a
 use Rattle.mt_physplan.specs.Keys.{key_cmp}
 use Rattle.mt_pages.specs.Control.{IsPageZero}
 use Rattle.mt_tables.specs.Commit.{with_values}
-use Rattle.mt_tables.specs.Pages.{SlotPlace, bytes_at, page_count, table_at}
+use Rattle.mt_tables.specs.Pages.{SlotPlace, page_count, table_at}
 use Rattle.mt_tables.specs.Plan.{IsPlan, Says}
 use Rattle.mt_tables.specs.Rows.{IsReadableSlot, KnownLayouts, body_in, catalogue_of, row_in, rows_of, sizes_of}
 use Rattle.mt_tables.specs.Tables.{TableSlot, overwritten, slot_at, slots_below}
@@ -25,7 +23,7 @@ use Rattle.mt_tables.proofs.Steps.{StandsAt, slot_after, with_ranges-last, writt
 use Rattle.mt_staging.specs.Group.{GroupState, PutsReadable, new_keys, used_in}
 use Rattle.mt_staging.proofs.Lists.{count_by-set, once}
 use Rattle.mt_staging.proofs.NewKeys.{applied-last, catalogue_applied-last, new_keys-last, newly}
-use Rattle.mt_staging.proofs.Outside.{count_stands, head_stands, zero_stands, zero_still}
+use Rattle.mt_staging.proofs.Outside.{count_stands, head_stands, same_table, zero_stands, zero_still}
 use Rattle.mt_staging.proofs.Pairs.{slot_there}
 
 -- The part of a group that speaks of its ranges, where so many pages count in all.
@@ -37,8 +35,9 @@ pub record Stands (known : KnownLayouts) (count total : ℕ) (area : Area) (chan
   pub body_changes : with_values body_values (catalogue_of known area) ≡ catalogue_applied changes (catalogue_of known area)
   pub bodies : IsPlan (sizes_of known) body_in body_cmp (λ key. key.0) total area body_values group.ranges group.places.bodies group.places.free
   pub counted : page_count (with_ranges group.ranges area) ≡ total
-  pub tables_stand : (page : ℕ) → 1 ≤ page → page < count → table_at (with_ranges group.ranges area) page ≡ table_at area page
   pub tables_added : (i : ℕ) → i < length group.added → table_at (with_ranges group.ranges area) (count + i) ≡ slice_index group.added i
+  pub heads_stand : (page k : ℕ) → 1 ≤ page → page < count → k < 8 → with_ranges group.ranges area (4096 * page + k) ≡ area (4096 * page + k)
+  pub heads_blank : (i k : ℕ) → i < length group.added → 4 ≤ k → k < 8 → with_ranges group.ranges area (4096 * (count + i) + k) ≡ 0
   pub taken : (t : ℕ) → group.taken t ≡ new_keys t changes (rows_of known area) (catalogue_of known area)
   pub used : (t : ℕ) → used_in (sizes_of known) t total (with_ranges group.ranges area) + group.freed t ≡ used_in (sizes_of known) t count area + group.taken t
   pub page_zero : IsPageZero area → IsPageZero (with_ranges group.ranges area)
@@ -65,8 +64,8 @@ module _ (known : KnownLayouts) (total : ℕ) (old : Area) (i : ℕ) (place : Sl
   pub pages_then : page_count (put_at place.position bytes old) ≡ page_count old
   pages_then = count_stands (sizes_of known) old at.page place.position bytes inside
 
-  pub heads_then : (m : ℕ) → table_at (put_at place.position bytes old) m ≡ table_at old m
-  heads_then m = head_stands (sizes_of known) old at.page place.position bytes inside m
+  pub heads_then : (m k : ℕ) → k < 8 → put_at place.position bytes old (4096 * m + k) ≡ old (4096 * m + k)
+  heads_then = head_stands (sizes_of known) old at.page place.position bytes inside
 
   pub zero_then : IsPageZero old → IsPageZero (put_at place.position bytes old)
   zero_then sound = zero_still old (put_at place.position bytes old) (zero_stands (sizes_of known) old at.page place.position bytes inside) sound
@@ -140,9 +139,11 @@ one_more_stands known count total area changes change old new was is s more =
       body_changes = more.body_changes ∙ sym (catalogue_applied-last changes change (catalogue_of known area));
       bodies = more.bodies;
       counted = ap page_count last ∙ pages_then known total before more.here.number more.place more.bytes more.here.stands more.short ∙ s.counted;
-      tables_stand = λ page some low. ap (λ (a : Area). table_at a page) last ∙ heads page ∙ s.tables_stand page some low;
-      tables_added = λ i within. ap (λ (a : Area). table_at a (count + i)) last ∙ heads (count + i)
+      tables_added = λ i within. ap (λ (a : Area). table_at a (count + i)) last ∙ same_table before (put_at more.place.position more.bytes before) (count + i) (heads (count + i))
           ∙ s.tables_added i (subst (λ (ts : List ℕ). i < length ts) more.added within) ∙ ap (λ (ts : List ℕ). slice_index ts i) (sym more.added);
+      heads_stand = λ page k some low within. ap (λ (a : Area). a (4096 * page + k)) last ∙ heads page k within ∙ s.heads_stand page k some low within;
+      heads_blank = λ i k within low high. ap (λ (a : Area). a (4096 * (count + i) + k)) last ∙ heads (count + i) k high
+          ∙ s.heads_blank i k (subst (λ (ts : List ℕ). i < length ts) more.added within) low high;
       taken = λ t. more.takes t ∙ ap (λ n. n + newly t change (applied changes (rows_of known area)) (catalogue_applied changes (catalogue_of known area))) (s.taken t)
           ∙ sym (new_keys-last t changes change (rows_of known area) (catalogue_of known area));
       used = λ t.

@@ -1,6 +1,6 @@
 -- A group of ranges while it is chosen for changes, one after another, and what the pages hold once it
 -- is written.
-use Rattle.std.specs.Prelude.{◌≡◌, ◌⊎◌, ℕ, ◌+◌, ◌*◌, ◌^◌, ◌<◌, ◌≤◌, ◌&&◌, nat_eq, Bool, true, false, not, if◌then◌else◌, List, [], ◌∷◌, length, slice_index, count_by, All, Option, None, Some}
+use Rattle.std.specs.Prelude.{◌≡◌, ◌⊎◌, ℕ, ◌+◌, ◌*◌, ◌^◌, ◌<◌, ◌≤◌, ◌&&◌, nat_eq, Bool, true, false, not, if◌then◌else◌, List, [], ◌∷◌, length, slice_index, count_by, All, Option, None, Some, IsSome}
 use Rattle.std.specs.FinMap as finite
 use Rattle.mt_journal.specs.Commits.{payload_size}
 use Rattle.mt_journal.specs.Layout.{Area, Range}
@@ -25,7 +25,7 @@ use Rattle.mt_places.specs.Places.{PlacesState}
 use Rattle.mt_tables.specs.Commit.{with_values}
 use Rattle.mt_tables.specs.Pages.{SlotSizes, page_count, table_at}
 use Rattle.mt_tables.specs.Plan.{IsPlan}
-use Rattle.mt_tables.specs.Rows.{IsReadableSlot, KnownLayouts, body_in, catalogue_of, row_in, rows_of, sizes_of}
+use Rattle.mt_tables.specs.Rows.{IsReadableSlot, KnownLayouts, body_in, catalogue_of, layout_of, row_in, rows_of, sizes_of}
 use Rattle.mt_tables.specs.Tables.{TableSlot, slots_below}
 
 -- A group so far: its ranges, where slots stand once they are written, the table of each page that it
@@ -109,6 +109,9 @@ pub record IsGroup (known : KnownLayouts) (count : ℕ) (area : Area) (start : �
   pub counted : page_count (with_ranges group.ranges area) ≡ count + length group.added
   pub tables_stand : (page : ℕ) → 1 ≤ page → page < count → table_at (with_ranges group.ranges area) page ≡ table_at area page
   pub tables_added : (i : ℕ) → i < length group.added → table_at (with_ranges group.ranges area) (count + i) ≡ slice_index group.added i
+  -- the head of a page stands, and that of one that is made is blank behind the table's number
+  pub heads_stand : (page k : ℕ) → 1 ≤ page → page < count → k < 8 → with_ranges group.ranges area (4096 * page + k) ≡ area (4096 * page + k)
+  pub heads_blank : (i k : ℕ) → i < length group.added → 4 ≤ k → k < 8 → with_ranges group.ranges area (4096 * (count + i) + k) ≡ 0
   pub taken : (t : ℕ) → group.taken t ≡ new_keys t changes (rows_of known area) (catalogue_of known area)
   pub filled : (t : ℕ) → group.taken t + length (group.places.free t) ≡ start t + pages_of t group.added * (sizes_of known).count t
   pub needed : (t : ℕ) → 1 ≤ pages_of t group.added → length (group.places.free t) < (sizes_of known).count t
@@ -119,6 +122,7 @@ pub record IsGroup (known : KnownLayouts) (count : ℕ) (area : Area) (start : �
   -- page 0 counts pages where it did, and the pages that are made are of tables that there are
   pub page_zero : IsPageZero area → IsPageZero (with_ranges group.ranges area)
   pub tables_few : (i : ℕ) → i < length group.added → slice_index group.added i < 32
+  pub tables_known : (i : ℕ) → i < length group.added → IsSome (layout_of known (slice_index group.added i))
   pub pages_few : count + length group.added ≤ 2 ^ 28
   pub few : length group.ranges ≤ 3 * length changes
   pub short : payload_size group.ranges ≤ 4 + 12324 * length changes

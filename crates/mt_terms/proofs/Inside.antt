@@ -3,7 +3,7 @@ use Rattle.std.proofs.Common.{◌≡◌, Bool, Option, Some, None, List, [], ◌
 use Rattle.std.proofs.Math.Seq.{take-append_seam, drop-append_seam}
 use Rattle.std.proofs.lemmas.List.Elements.{All-nil, All-cons, All-head, All-tail, All-append, All-take, All-drop}
 use Rattle.std.specs.List.{All, flat_map}
-use Rattle.std.specs.Option.{option_map}
+use Rattle.std.specs.Option.{option_map, option_zip}
 use Rattle.mt_value.specs.declared.truth.Cmp.{Cmp}
 use Rattle.mt_tree.specs.declared.expression.Literal.{Literal}
 use Rattle.mt_tree.specs.declared.expression.Atom.{Atom}
@@ -23,7 +23,7 @@ use Rattle.mt_reader.specs.Taken.{Keeps}
 use Rattle.mt_reader.proofs.Fronts.{keeps_map}
 use Rattle.mt_terms.specs.declared.test.Test.{Test}
 use Rattle.mt_terms.specs.declared.test.Test.TheVariants as test
-use Rattle.mt_terms.specs.Descent.{both, cond_with}
+use Rattle.mt_terms.specs.Descent.{cond_with}
 use Rattle.mt_terms.specs.Inside.{atom_literals, joined, expr_step, term_step, expr_literals, test_literals, cond_step, cond_literals, IsAtomInside, IsExprInside, IsTermInside, IsTestInside, IsCondInside}
 
 -- of an atom by itself
@@ -115,7 +115,7 @@ keeps_term minus = keeps_map IsExprInside IsTermInside (λ e. record { minus = m
 -- tests
 
 -- both of two parts are kept
-pub keeps_both : {A B C : Type 0} (inside : A → Type 0) (within : B → Type 0) (whole : C → Type 0) (make : A → B → C) → ((a : A) (b : B) → inside a → within b → whole (make a b)) → ((a : A) (b : B) → whole (make a b) → inside a × within b) → (kept : Option A) (a : A) (held : Option B) (b : B) → Keeps inside kept a → Keeps within held b → Keeps whole (both make kept held) (make a b)
+pub keeps_both : {A B C : Type 0} (inside : A → Type 0) (within : B → Type 0) (whole : C → Type 0) (make : A → B → C) → ((a : A) (b : B) → inside a → within b → whole (make a b)) → ((a : A) (b : B) → whole (make a b) → inside a × within b) → (kept : Option A) (a : A) (held : Option B) (b : B) → Keeps inside kept a → Keeps within held b → Keeps whole (option_map (λ (pair : A × B). make pair.0 pair.1) (option_zip kept held)) (make a b)
 keeps_both inside within whole make to from None a held b k h = λ w. k (from a b w).0
 keeps_both inside within whole make to from (Some x) a None b k h = λ w. h (from a b w).1
 keeps_both inside within whole make to from (Some x) a (Some y) b k h = (cc (k.0, h.0), to a b k.1 h.1)
@@ -130,7 +130,7 @@ All-append_parts P xs ys h = (
 pub keeps_member : (negated : Bool) (kept : Option (List Atom)) (list : List Atom) → Keeps (All IsAtomInside) kept list → Keeps IsTestInside (option_map (test.Member negated) kept) (test.Member negated list)
 keeps_member negated = keeps_map (All IsAtomInside) IsTestInside (test.Member negated) (All-flat_map IsLiteralInside atom_literals) (All-flat_map_parts IsLiteralInside atom_literals)
 
-pub keeps_between : (negated : Bool) (low : Option Atom) (a : Atom) (high : Option Atom) (b : Atom) → Keeps IsAtomInside low a → Keeps IsAtomInside high b → Keeps IsTestInside (both (test.Between negated) low high) (test.Between negated a b)
+pub keeps_between : (negated : Bool) (low : Option Atom) (a : Atom) (high : Option Atom) (b : Atom) → Keeps IsAtomInside low a → Keeps IsAtomInside high b → Keeps IsTestInside (option_map (λ (bounds : Atom × Atom). test.Between negated bounds.0 bounds.1) (option_zip low high)) (test.Between negated a b)
 keeps_between negated = keeps_both IsAtomInside IsAtomInside IsTestInside (test.Between negated) (λ a b. All-append IsLiteralInside (atom_literals a) (atom_literals b)) (λ a b. All-append_parts IsLiteralInside (atom_literals a) (atom_literals b))
 
 pub keeps_like : (negated : Bool) (kept : Option Atom) (a : Atom) → Keeps IsAtomInside kept a → Keeps IsTestInside (option_map (test.Like negated) kept) (test.Like negated a)
@@ -192,10 +192,10 @@ module _ (join : List Cond → Cond) (literals : (cs : List Cond) → cond_liter
   all_inside cs h = All-flat_map_parts IsLiteralInside cond_literals cs (rw (literals cs) at h)
 
 -- what is kept of a predicate, of NOT, of AND and of OR is kept of their parts
-pub keeps_with : (kept : Option Atom) (a : Atom) (held : Option Test) (t : Test) → Keeps IsAtomInside kept a → Keeps IsTestInside held t → Keeps IsCondInside (both cond_with kept held) (cond_with a t)
+pub keeps_with : (kept : Option Atom) (a : Atom) (held : Option Test) (t : Test) → Keeps IsAtomInside kept a → Keeps IsTestInside held t → Keeps IsCondInside (option_map (λ (parts : Atom × Test). cond_with parts.0 parts.1) (option_zip kept held)) (cond_with a t)
 keeps_with = keeps_both IsAtomInside IsTestInside IsCondInside cond_with inside_with with_inside
 
-pub keeps_compare : (op : Cmp) (left : Option Atom) (a : Atom) (right : Option Atom) (b : Atom) → Keeps IsAtomInside left a → Keeps IsAtomInside right b → Keeps IsCondInside (both (cond.Compare op) left right) (cond.Compare op a b)
+pub keeps_compare : (op : Cmp) (left : Option Atom) (a : Atom) (right : Option Atom) (b : Atom) → Keeps IsAtomInside left a → Keeps IsAtomInside right b → Keeps IsCondInside (option_map (λ (pair : Atom × Atom). cond.Compare op pair.0 pair.1) (option_zip left right)) (cond.Compare op a b)
 keeps_compare op = keeps_both IsAtomInside IsAtomInside IsCondInside (cond.Compare op) (inside_compare op) (compare_inside op)
 
 pub keeps_not : (kept : Option Cond) (c : Cond) → Keeps IsCondInside kept c → Keeps IsCondInside (option_map cond.Not kept) (cond.Not c)

@@ -1,6 +1,7 @@
 -- What a predicate says of its first atom: what is read is spelled so, and what is spelled so is read.
 use Rattle.std.proofs.Common.{◌≡◌, ℕ, Bool, true, false, Some, None, List, [], ◌∷◌, ◌++◌, drop, refl, sym, ap, ◌∙◌, subst, append_assoc}
 use Rattle.std.specs.Prelude.{codes}
+use Rattle.std.specs.Option.{option_and_then}
 use Rattle.mt_lexer.specs.declared.token.Symbol.{Symbol}
 use Rattle.mt_lexer.specs.declared.token.Symbol.TheVariants as symbol
 use Rattle.mt_lexer.specs.Tokens.{Lexeme, Word, Sign}
@@ -104,6 +105,13 @@ member_sound negated lexemes left rest t h e =
         is_right = record { front = Word (codes "in") ∷ []; back = s.front; split = refl; is_left = refl; is_right = s.spelled };
       });
     }
+
+-- an atom behind an AND is the second bound
+pub between_reads : (negated : Bool) (lexemes rest left : List Lexeme) (low high : Atom) → atom_of lexemes ≡ Some (low, rest) → option_and_then atom_of (after (Word (codes "and")) rest) ≡ Some (high, left) → between_of negated lexemes ≡ Some (test.Between negated low high, left)
+unfolding between_of
+between_reads negated lexemes rest left low high first second =
+    let behind = bind_some (after (Word (codes "and")) rest) atom_of (high, left) second in
+    rw (first, behind.1, behind.2) refl
 
 -- behind BETWEEN
 between_sound : (negated : Bool) (lexemes left rest : List Lexeme) (t : Test) → lexemes ≡ not_front negated ++ Word (codes "between") ∷ left → between_of negated left ≡ Some (t, rest) → Begins SpellsTest lexemes rest t

@@ -192,12 +192,6 @@ compare_of lexemes = do
   op ← cmp_of sign
   Some (op, drop 1 lexemes)
 
--- two parts, where both are there
-abbrev pub both : {A B C : Type 0} → (A → B → C) → Option A → Option B → Option C
-both make None b = None
-both make (Some a) None = None
-both make (Some a) (Some b) = Some (make a b)
-
 -- behind IN
 unfoldable pub member_of : Bool → List Lexeme → Option (Test × List Lexeme)
 member_of negated lexemes = do

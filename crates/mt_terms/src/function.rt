@@ -3,6 +3,7 @@ ghost use Rattle.mt_reader.specs.Taken.{TakesExactly};
 ghost use Rattle.mt_terms.specs.Descent.{counted_of, agg_of};
 
 use crate::name::{argument, column};
+use crate::parts::closed;
 use mt_lexer::Symbol;
 use mt_reader::{ReadFault, Reader};
 use mt_tree::Agg;
@@ -37,6 +38,5 @@ fn counted(alloc: Global, reader: &mut Reader<'_>) -> Result<Agg, ReadFault>
         return Ok(Agg::CountAll);
     }
     let column = column(alloc, reader)?;
-    reader.symbol(Symbol::Close)?;
-    Ok(Agg::Count(column))
+    Ok(Agg::Count(closed(reader, column)?))
 }

@@ -11,6 +11,7 @@ mod leaf;
 mod logic;
 mod members;
 mod name;
+mod parts;
 mod predicate;
 mod read;
 mod sum;

@@ -6,6 +6,7 @@ ghost use Rattle.mt_terms.specs.Descent.{and_of, or_of, not_of, neg_of, cond_of}
 ghost use Rattle.mt_terms.specs.Inside.{IsCondInside, AddsMember};
 
 use crate::members::push;
+use crate::parts::closed;
 use crate::predicate::predicate;
 use crate::sum::DEPTH;
 use mt_lexer::Symbol;
@@ -177,8 +178,7 @@ fn condition_in_brackets(
 {
     reader.symbol(Symbol::Open)?;
     let inner = disjunction(alloc, reader, depth)?;
-    reader.symbol(Symbol::Close)?;
-    Ok(inner)
+    closed(reader, inner)
 }
 
 /// The condition that denies this one.

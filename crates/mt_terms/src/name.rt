@@ -4,6 +4,7 @@ ghost use Rattle.mt_reader.specs.Taken.{TakesExactly};
 ghost use Rattle.mt_reader.specs.Descent.{bracketed_of};
 ghost use Rattle.mt_terms.specs.Descent.{column_of};
 
+use crate::parts::closed;
 use mt_lexer::Symbol;
 use mt_reader::{ReadFault, Reader};
 use mt_tree::ColName;
@@ -36,6 +37,5 @@ pub(crate) fn argument(alloc: Global, reader: &mut Reader<'_>) -> Result<ColName
 {
     reader.symbol(Symbol::Open)?;
     let column = column(alloc, reader)?;
-    reader.symbol(Symbol::Close)?;
-    Ok(column)
+    closed(reader, column)
 }

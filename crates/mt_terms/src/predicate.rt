@@ -1,10 +1,11 @@
-ghost use Rattle.std.specs.Prelude.{◌≡◌};
+ghost use Rattle.std.specs.Prelude.{◌≡◌, option_map};
 ghost use Rattle.mt_tree.specs.declared.expression.Atom.{Atom};
 ghost use Rattle.mt_reader.specs.Taken.{Keeps, TakesInside};
-ghost use Rattle.mt_terms.specs.Descent.{plain_of, compared_of, said_with, both, cond_with};
+ghost use Rattle.mt_terms.specs.Descent.{plain_of, compared_of, said_with, cond_with};
 ghost use Rattle.mt_terms.specs.Inside.{IsAtomInside, IsCondInside};
 
 use crate::leaf::{atom, integer, integer_atom};
+use crate::parts::paired;
 use crate::test::{Test, comparison, said};
 use mt_reader::{ReadFault, Reader};
 use mt_tree::{Atom, Cond};
@@ -33,10 +34,10 @@ fn compared(
     ensures { (a : Atom) → Keeps IsAtomInside left a → TakesInside IsCondInside result reader.new (compared_of op a reader.old) }
 {
     let Some(number) = integer(reader) else {
-        let right = atom(alloc, reader)?;
-        return Ok(compares(op, left, right));
+        let atoms = paired(left, atom(alloc, reader))?;
+        return Ok(compares(op, atoms));
     };
-    Ok(compares(op, left, integer_atom(number)))
+    Ok(compares(op, left.zip(integer_atom(number))))
 }
 
 /// Takes what else is said of an atom.
@@ -47,27 +48,25 @@ fn tested(
 ) -> Result<Option<Cond>, ReadFault>
     ensures { (a : Atom) → Keeps IsAtomInside atom a → TakesInside IsCondInside result reader.new (said_with a reader.old) }
 {
-    let test = said(alloc, reader)?;
-    Ok(says(atom, test))
+    let parts = paired(atom, said(alloc, reader))?;
+    Ok(says(parts))
 }
 
 /// The predicate that compares two atoms.
 #[inline(always)]
-fn compares(op: Cmp, left: Option<Atom>, right: Option<Atom>) -> Option<Cond>
-    ensures { result ≡ both (Cond.Compare op) left right }
+fn compares(op: Cmp, atoms: Option<(Atom, Atom)>) -> Option<Cond>
+    ensures { result ≡ option_map (λ pair. Cond.Compare op pair.0 pair.1) atoms }
 {
-    Some(Cond::Compare {
-        op,
-        left: left?,
-        right: right?,
-    })
+    let (left, right) = atoms?;
+    Some(Cond::Compare { op, left, right })
 }
 
 /// The predicate that says this of an atom.
-fn says(atom: Option<Atom>, test: Option<Test>) -> Option<Cond>
-    ensures { result ≡ both cond_with atom test }
+fn says(parts: Option<(Atom, Test)>) -> Option<Cond>
+    ensures { result ≡ option_map (λ parts. cond_with parts.0 parts.1) parts }
 {
-    Some(tested_by(atom?, test?))
+    let (atom, test) = parts?;
+    Some(tested_by(atom, test))
 }
 
 fn tested_by(atom: Atom, test: Test) -> Cond

@@ -7,6 +7,7 @@ ghost use Rattle.mt_terms.specs.Inside.{IsExprInside, TookNumber, AddsTerm};
 
 use crate::leaf::{atom, integer, integer_atom};
 use crate::members::push;
+use crate::parts::closed;
 use mt_lexer::Symbol;
 use mt_list::List;
 use mt_reader::{ReadFault, Reader};
@@ -172,8 +173,7 @@ fn sum_in_brackets(
 {
     reader.symbol(Symbol::Open)?;
     let inner = sum(alloc, reader, depth)?;
-    reader.symbol(Symbol::Close)?;
-    Ok(inner)
+    closed(reader, inner)
 }
 
 /// Takes an atom by itself.

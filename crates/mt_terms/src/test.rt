@@ -1,10 +1,13 @@
-ghost use Rattle.std.specs.Prelude.{◌≡◌, Option, option_map};
+ghost use Rattle.std.specs.Prelude.{◌≡◌, Option, option_map, option_and_then, codes};
+ghost use Rattle.mt_lexer.specs.Tokens.{Word};
+ghost use Rattle.mt_reader.specs.Descent.{after};
 ghost use Rattle.mt_reader.specs.Taken.{TakesAny, TakesInside};
-ghost use Rattle.mt_terms.specs.Descent.{cmp_of, compare_of, said_of, tested_of, worded_of, member_of, between_of, like_of, both};
-ghost use Rattle.mt_terms.specs.Inside.{IsTestInside};
+ghost use Rattle.mt_terms.specs.Descent.{cmp_of, compare_of, said_of, tested_of, worded_of, member_of, between_of, like_of, atom_of};
+ghost use Rattle.mt_terms.specs.Inside.{IsAtomInside, IsTestInside};
 
 use crate::form::AtomForm;
 use crate::leaf::atom;
+use crate::parts::paired;
 use mt_lexer::Symbol;
 use mt_list::List;
 use mt_reader::{ReadFault, Reader, bracketed};
@@ -106,9 +109,16 @@ fn between(alloc: Global, reader: &mut Reader<'_>, negated: bool) -> Result<Opti
     ensures { TakesInside IsTestInside result reader.new (between_of negated reader.old) }
 {
     let low = atom(alloc, reader)?;
+    let bounds = paired(low, bound(alloc, reader))?;
+    Ok(bounded(negated, bounds))
+}
+
+/// Takes the AND between the bounds, and the second one.
+fn bound(alloc: Global, reader: &mut Reader<'_>) -> Result<Option<Atom>, ReadFault>
+    ensures { TakesInside IsAtomInside result reader.new (option_and_then atom_of (after (Word (codes "and")) reader.old)) }
+{
     reader.word(b"and")?;
-    let high = atom(alloc, reader)?;
-    Ok(bounded(negated, low, high))
+    atom(alloc, reader)
 }
 
 /// Takes the pattern of LIKE.
@@ -126,10 +136,11 @@ fn listed(negated: bool, list: Option<List<Atom>>) -> Option<Test>
     Some(Test::Member(negated, Items::from_vec(list?.into_vec())))
 }
 
-fn bounded(negated: bool, low: Option<Atom>, high: Option<Atom>) -> Option<Test>
-    ensures { result ≡ both (Test.Between negated) low high }
+fn bounded(negated: bool, bounds: Option<(Atom, Atom)>) -> Option<Test>
+    ensures { result ≡ option_map (λ bounds. Test.Between negated bounds.0 bounds.1) bounds }
 {
-    Some(Test::Between(negated, low?, high?))
+    let (low, high) = bounds?;
+    Some(Test::Between(negated, low, high))
 }
 
 fn matched(negated: bool, pattern: Option<Atom>) -> Option<Test>

@@ -17,7 +17,7 @@ pub returns-in_err-commit_body-clause-any_moment :
     goal.returns-in_err-commit_body-clause-any_moment
 returns-in_err-commit_body-clause-any_moment g c = λ changes staged allowed.
     let meaning = g.M.Machine.meaning in
-    stops_whole changes (group_of c.args.staged.group) c.args.self.now (meaning c.args.m.now) (meaning c.commit_body.new.m) staged allowed
+    stops_whole changes (group_of c.args.staged.group) c.args.self.now (meaning c.args.m.now) (meaning c.commit_body.new.m) c.requires.stands staged allowed
     (subst (LeavesEither (meaning c.args.m.now) (meaning c.commit_body.new.m)) c.body.ensures c.commit_body.ensures.any_moment)
 
 pub returns-clause-ok : goal.returns-clause-ok
@@ -41,5 +41,5 @@ returns-clause-ok g c = λ changes staged allowed.
 pub returns-clause-any_moment : goal.returns-clause-any_moment
 returns-clause-any_moment g c = λ changes staged allowed.
     let meaning = g.M.Machine.meaning in
-    stops_whole changes (group_of c.args.staged.group) c.args.self.now (meaning c.args.m.now) (meaning c.commit_body.new.m) staged allowed
+    stops_whole changes (group_of c.args.staged.group) c.args.self.now (meaning c.args.m.now) (meaning c.commit_body.new.m) c.requires.stands staged allowed
     (subst (LeavesEither (meaning c.args.m.now) (meaning c.commit_body.new.m)) c.body.ensures c.commit_body.ensures.any_moment)

@@ -9,9 +9,14 @@ use std::test::Fail;
 /// The conventional row.
 const CONV: Place = Place::Conv;
 
-/// A place in a chunk.
-const fn at(chunk: u8, field: u8) -> Place {
-    Place::Field { chunk, field }
+/// A place in a chunk, also in a constant.
+macro_rules! at {
+    ($chunk:expr, $field:expr) => {
+        Place::Field {
+            chunk: $chunk,
+            field: $field,
+        }
+    };
 }
 
 /// The name and the kind of a column.
@@ -83,39 +88,40 @@ const ACCOUNT: [Given; 4] = [
     ("beds", Kind::Integer),
 ];
 
+/// The shapes of a fold, the places of those columns, and what is printed.
+static TEXTS: [(&[Shape], &[Place], &[u8]); 5] = [
+    (&[], &[CONV; 4], b"old CONV (aid, name, hospital, beds)"),
+    (
+        &[C3],
+        &[CONV, CONV, at!(0, 1), at!(0, 0)],
+        b"old CONV (aid, name), C3 (beds, hospital)",
+    ),
+    (
+        &[C2, C3],
+        &[CONV, at!(0, 0), at!(1, 1), at!(1, 0)],
+        b"old CONV (aid), C2 (name), C3 (beds, hospital)",
+    ),
+    (
+        &[C2, C1, C2],
+        &[CONV, at!(0, 0), at!(2, 0), at!(1, 0)],
+        b"old CONV (aid), C2 (name), C1 (beds), C2 (hospital)",
+    ),
+    (
+        &[C5],
+        &[at!(0, 1), at!(0, 2), at!(0, 3), at!(0, 0)],
+        b"old C5 (beds, aid, name, hospital)",
+    ),
+];
+
 /// What stood before stays in front.
 #[test]
 fn texts_of_folds(rt: HostRuntime) -> Result<(), Fail> {
-    let alloc = rt.alloc();
-    let cases: [(&[Shape], [Place; 4], &[u8]); 5] = [
-        (&[], [CONV; 4], b"old CONV (aid, name, hospital, beds)"),
-        (
-            &[C3],
-            [CONV, CONV, at(0, 1), at(0, 0)],
-            b"old CONV (aid, name), C3 (beds, hospital)",
-        ),
-        (
-            &[C2, C3],
-            [CONV, at(0, 0), at(1, 1), at(1, 0)],
-            b"old CONV (aid), C2 (name), C3 (beds, hospital)",
-        ),
-        (
-            &[C2, C1, C2],
-            [CONV, at(0, 0), at(2, 0), at(1, 0)],
-            b"old CONV (aid), C2 (name), C1 (beds), C2 (hospital)",
-        ),
-        (
-            &[C5],
-            [at(0, 1), at(0, 2), at(0, 3), at(0, 0)],
-            b"old C5 (beds, aid, name, hospital)",
-        ),
-    ];
-    for (shapes, places, wanted) in cases {
+    for (shapes, places, wanted) in &TEXTS {
         assert!(rt;
-            prints(alloc, &ACCOUNT, shapes, &places, wanted)?,
+            prints(rt.alloc(), &ACCOUNT, shapes, places, wanted)?,
             "{shapes:?}"
         );
     }
-    assert!(rt; prints(alloc, &[], &[], &[], b"old ")?);
+    assert!(rt; prints(rt.alloc(), &[], &[], &[], b"old ")?);
     Ok(())
 }

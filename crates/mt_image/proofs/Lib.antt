@@ -1,0 +1,5 @@
+mod Examples
+pub mod Empty
+pub mod Known
+pub mod OneImage
+pub mod Sound

@@ -1,0 +1,4 @@
+pub mod Layouts
+pub mod Fits
+pub mod Rules
+pub mod Image
