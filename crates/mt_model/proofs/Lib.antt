@@ -1,5 +1,9 @@
 pub mod Seen
 pub mod OneRequest
 pub mod ServedTrees
+pub mod Replies
 pub mod Unchanged
+pub mod InStep
+pub mod Stepped
+pub mod WellFormed
 pub mod Examples
