@@ -1,4 +1,3 @@
-pub mod Coded
 pub mod Finding
 pub mod Kept
 pub mod Outcome

@@ -1,12 +1,14 @@
-//! The private engine: it answers each line from lists in memory, as slowly and plainly as the
-//! definitions of `mt_model` read. It promises that each reply is that of the service's step and
-//! that its value is then the next service, or that want of memory changed nothing.
+//! The private engine: it answers each line from a catalogue and lists of rows in memory, as plainly as
+//! the definitions of `mt_model` read. It promises that each reply is that of the service's step and
+//! that what it keeps then stands for the next service, or that want of memory changed nothing.
 #![tactic(auto)]
 
-mod create_table;
-mod create_tenant;
+mod columns;
+mod command;
+mod extend;
 mod fit;
 mod insert;
+mod kept;
 mod names;
 mod plain;
 mod print;

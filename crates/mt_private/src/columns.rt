@@ -1,0 +1,1 @@
+//! The columns of a tenant's table.

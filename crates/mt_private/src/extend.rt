@@ -1,0 +1,1 @@
+//! The rows of a table once an extension is put to it.
