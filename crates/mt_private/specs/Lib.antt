@@ -1,5 +1,6 @@
 pub mod Finding
 pub mod Kept
 pub mod Outcome
+pub mod Seen
 pub mod Serving
 pub mod Visible

@@ -1,17 +1,25 @@
-ghost use Rattle.std.specs.Prelude.{◌≡◌, ◌<◌, ◌+◌, ◌^◌, ◌++◌, [], ◌∷◌, map, codes, nat_lt, not, slice_index_or, slice_set, length, IfOk, OnOk, OnErr};
+ghost use Rattle.std.specs.Prelude.{◌≡◌, ℕ, ◌+◌, ◌<◌, ◌≤◌, ◌^◌, ◌++◌, ◌∷◌, [], true, not, cond, nat_eq, nat_lt, map, codes, length, slice_get, Some, IfOk, OnOk, OnErr};
 ghost use Rattle.mt_tree.specs.declared.simple.SimpleStmt.TheVariants.{Insert};
+ghost use Rattle.mt_catalog.specs.declared.state.TenantTable.{TenantTable as KeptTable};
+ghost use Rattle.mt_catalog.specs.State.{tenant_table};
+ghost use Rattle.mt_schema.specs.Refusals.{first_holding};
+ghost use Rattle.mt_schema.specs.Steps.{with_table};
+ghost use Rattle.mt_model.specs.Parts.{made_one, one_more_made};
+ghost use Rattle.mt_model.specs.Request.{Statement};
 ghost use Rattle.mt_model.specs.Said.{Says};
-ghost use Rattle.mt_model.specs.Answer.{first_holding, insert_tests};
-ghost use Rattle.mt_model.specs.Database.{no_rows, kept_rows, with_row};
+ghost use Rattle.mt_model.specs.Service.{Service};
 ghost use Rattle.mt_model.specs.Tables.{value_of};
-ghost use Rattle.mt_private.specs.Kept.{IsDatabase};
-ghost use Rattle.mt_private.specs.Outcome.{IsAnswered, KeepsContent, AddsRow};
+ghost use Rattle.mt_private.specs.Kept.{AreKept, IsKeptTable};
+ghost use Rattle.mt_private.specs.Outcome.{IsAnswered};
+ghost use Rattle.mt_private.specs.Seen.{AddsRow, IsChecked, IsSeen, KeepsRows, database_in, kept_in, list_at, row_tests, view_in};
 
-use crate::fit::{are_short, fit_columns};
-use crate::names::table_number;
+use crate::fit::{fit_columns, has_long_text, has_null, repeats_key};
+use crate::kept::{TableRows, TenantRows};
+use crate::seen::{base_number, columns_in, lists_of, rows_at, tenant_of};
+use mt_catalog::{Catalog, TenantEntry};
 use mt_list::List;
-use mt_model::{Content, PrivateDatabase};
-use mt_tree::{Code, Columns, Literal, MarkedRow, Reply, ReplyText, Schema, TableContent, Tuple};
+use mt_model::{inserted_rows_are_parts, parts_tell_the_service};
+use mt_tree::{Code, Column, Literal, MarkedRow, Reply, ReplyText, Tuple};
 use mt_value::{Row, Str, Value};
 use std::alloc::{AllocError, Global};
 
@@ -21,99 +29,100 @@ const ROWS_MAX: u64 = 1 << 63;
 /// Answers an INSERT of one row.
 pub(crate) fn insert(
     alloc: Global,
-    tables: &Schema,
-    database: &mut PrivateDatabase,
+    catalog: &mut Catalog,
+    rows: &mut TenantRows,
+    tenant: u32,
     table: &Str,
     values: Tuple,
 ) -> Reply
-    requires { IsDatabase tables.now database.old }
-    ensures answered { IsAnswered tables.now database.old database.new (Says (Insert table.now values)) result }
-    ensures kept { IsDatabase tables.now database.new }
+    requires { (service : Service) × AreKept catalog.old rows.old.entries service }
+    ensures { IsAnswered catalog.old catalog.new rows.old.entries rows.new.entries (Statement tenant (Says (Insert table.now values))) result }
 {
-    let Some(number) = table_number(tables.as_slice(), table) else {
-        return Reply::Refused(Code::UnknownTable);
+    parts_tell_the_service();
+    inserted_rows_are_parts();
+    let Some(entry) = tenant_of(catalog, tenant) else {
+        return Reply::Refused(Code::UnknownTenant);
     };
-    let columns = &tables.get(number).columns;
-    if let Some(code) = insert_refusal(columns, database, number, &values) {
-        return Reply::Refused(code);
-    }
-    match insert_row(alloc, &mut database.current, number, values) {
-        Ok(text) => Reply::Text(text),
+    match checked(alloc, catalog, entry, lists_of(rows, tenant), table, values) {
+        Ok(Ok((base, row))) => match insert_row(alloc, catalog, rows, tenant, base, row) {
+            Ok(text) => Reply::Text(text),
+            Err(AllocError) => Reply::Memory,
+        },
+        Ok(Err(code)) => Reply::Refused(code),
         Err(AllocError) => Reply::Memory,
     }
 }
 
-/// Why a row is not inserted into the table of that number.
-fn insert_refusal(
-    columns: &Columns,
-    database: &PrivateDatabase,
-    number: usize,
-    literals: &Tuple,
-) -> Option<Code>
-    ensures { result ≡ first_holding (insert_tests columns.now database.now number literals.now) }
+/// The number of the table and the row that literals write, or why it is not inserted.
+fn checked(
+    alloc: Global,
+    catalog: &Catalog,
+    entry: &TenantEntry,
+    lists: &[List<MarkedRow>],
+    table: &Str,
+    values: Tuple,
+) -> Result<Result<(usize, Row), Code>, AllocError>
+    requires { IsSeen catalog.now entry.now lists.now }
+    ensures { IfOk result (IsChecked (view_in catalog.now entry.now lists.now) (database_in entry.now lists.now) table.now values) }
 {
+    let Some(base) = base_number(catalog, table) else {
+        return Ok(Err(Code::UnknownTable));
+    };
+    let own = entry.tables.get(base);
+    let columns = columns_in(alloc, catalog, base, own.extended.as_slice())?;
     let columns = columns.as_slice();
-    let literals = literals.as_slice();
-    if !fit_columns(columns, literals) {
-        return Some(Code::TypesDoNotFit);
+    if !fit_columns(columns, values.as_slice()) {
+        return Ok(Err(Code::TypesDoNotFit));
     }
-    if !are_short(columns, literals) {
+    let row = row_of(alloc, values)?;
+    let has_room = has_room(lists, entry.tables.len(), entry.quota);
+    match row_refusal(columns, rows_at(lists, base), row.as_slice(), has_room, own.made) {
+        None => Ok(Ok((base, row))),
+        Some(code) => Ok(Err(code)),
+    }
+}
+
+/// Why a row that fits its columns is not inserted behind these rows. Only the new row is looked at for
+/// its texts and NULL, since the others are sound.
+fn row_refusal(
+    columns: &[Column],
+    rows: &[MarkedRow],
+    values: &[Value],
+    has_room: bool,
+    made: u64,
+) -> Option<Code>
+    requires kept { IsKeptTable columns.now rows.now }
+    requires whole { length values.now ≡ length columns.now }
+    ensures { (quota kept : ℕ) → has_room ≡ not (nat_lt quota (kept + 1)) → result ≡ first_holding (row_tests columns.now rows.now values.now quota kept made) }
+{
+    if has_long_text(columns, values) {
         return Some(Code::TextTooLong);
     }
-    if !has_room(database) {
+    if has_null(columns, values) {
+        return Some(Code::NullNotAllowed);
+    }
+    if repeats_key(columns, rows, values) {
+        return Some(Code::DuplicateKey);
+    }
+    if !has_room {
         return Some(Code::QuotaFull);
     }
-    if made(&database.current, number) >= ROWS_MAX {
+    if made >= ROWS_MAX {
         return Some(Code::RowNumbersUsedUp);
     }
     None
 }
 
-/// Whether one row more may be kept.
-fn has_room(database: &PrivateDatabase) -> bool
-    ensures { result ≡ not (nat_lt database.now.quota (kept_rows database.now + 1)) }
+/// Whether one row more may be kept beside those of the first so many lists.
+fn has_room(lists: &[List<MarkedRow>], count: usize, quota: u32) -> bool
+    requires { kept_in lists.now count ≤ quota }
+    ensures { result ≡ not (nat_lt quota (kept_in lists.now count + 1)) }
 {
-    let mut left = database.quota as usize;
-    for content in database.current.as_slice() {
-        let kept = content.rows.len();
-        if left < kept {
-            return false;
-        }
-        left -= kept;
+    let mut left = quota as usize;
+    for base in 0..count {
+        left -= rows_at(lists, base).len();
     }
     left > 0
-}
-
-/// How many rows were ever inserted into the table of that number.
-fn made(current: &Content, number: usize) -> u64
-    ensures { result ≡ (slice_index_or current.now number no_rows).made }
-{
-    if number < current.len() {
-        current.get(number).made
-    } else {
-        0
-    }
-}
-
-/// Inserts the row of these literals into the table of that number, and makes the reply. All memory
-/// is taken before a row changes.
-#[tactic(auto, using(crate::proofs::Filled::AddsRow_set))]
-fn insert_row(
-    alloc: Global,
-    current: &mut Content,
-    number: usize,
-    literals: Tuple,
-) -> Result<ReplyText, AllocError>
-    requires { (slice_index_or current.old number no_rows).made < 2 ^ 63 }
-    ensures reply { IfOk result (λ text. text ≡ codes "ok 1\n") }
-    ensures ok { OnOk result (AddsRow number (map value_of literals) current.old current.new) }
-    ensures err { OnErr result (KeepsContent number current.old current.new) }
-{
-    let text = ReplyText::from_bytes(alloc, b"ok 1\n")?;
-    let row = row_of(alloc, literals)?;
-    reach(alloc, current, number)?;
-    push_row(current, number, row)?;
-    Ok(text)
 }
 
 /// The values that literals write.
@@ -137,34 +146,93 @@ fn value_of(literal: Literal) -> Value
     }
 }
 
-/// Adds contents without a row until there is one for the table of that number.
-#[tactic(auto, using(crate::proofs::Filled::reaching))]
-fn reach(alloc: Global, current: &mut Content, number: usize) -> Result<(), AllocError>
-    ensures reached { OnOk result (number < length current.new) }
-    ensures there { slice_index_or current.new number no_rows ≡ slice_index_or current.old number no_rows }
-    ensures kept { KeepsContent number current.old current.new }
+/// Inserts a row into a tenant's table, and makes the reply. All memory is taken before anything
+/// changes.
+fn insert_row(
+    alloc: Global,
+    catalog: &mut Catalog,
+    rows: &mut TenantRows,
+    tenant: u32,
+    base: usize,
+    row: Row,
+) -> Result<ReplyText, AllocError>
+    requires { (table : KeptTable) → tenant_table catalog.old tenant base ≡ Some table → table.made < 2 ^ 63 }
+    ensures reply { IfOk result (λ text. text ≡ codes "ok 1\n") }
+    ensures counted { OnOk result (catalog.new ≡ made_one catalog.old tenant base) }
+    ensures added { OnOk result (AddsRow tenant base row rows.old.entries rows.new.entries) }
+    ensures same_catalog { OnErr result (catalog.new ≡ catalog.old) }
+    ensures same_rows { OnErr result (KeepsRows rows.old.entries rows.new.entries) }
 {
-    while current.len() <= number {
-        current.push(TableContent {
-            made: 0,
-            rows: List::new(alloc),
-        })?;
+    let text = ReplyText::from_bytes(alloc, b"ok 1\n")?;
+    add_row(alloc, rows, tenant, base, row)?;
+    count_row(catalog, tenant, base);
+    Ok(text)
+}
+
+/// Adds a visible row at the end of a tenant's table, or leaves the rows of each.
+fn add_row(
+    alloc: Global,
+    rows: &mut TenantRows,
+    tenant: u32,
+    base: usize,
+    row: Row,
+) -> Result<(), AllocError>
+    ensures ok { OnOk result (AddsRow tenant base row rows.old.entries rows.new.entries) }
+    ensures err { OnErr result (KeepsRows rows.old.entries rows.new.entries) }
+{
+    if let Some(lists) = rows.get_mut(&tenant) {
+        return push_row(alloc, lists, base, row);
+    }
+    let mut lists = List::new(alloc);
+    push_row(alloc, &mut lists, base, row)?;
+    rows.insert(tenant, lists)?;
+    Ok(())
+}
+
+/// Adds a visible row at the end of the list of that number, or leaves the rows of each.
+fn push_row(
+    alloc: Global,
+    lists: &mut TableRows,
+    base: usize,
+    row: Row,
+) -> Result<(), AllocError>
+    ensures ok { OnOk result ((other : ℕ) → list_at lists.new other ≡ cond (nat_eq other base) (list_at lists.old other ++ record { visible = true; values = row } ∷ []) (list_at lists.old other)) }
+    ensures err { OnErr result ((other : ℕ) → list_at lists.new other ≡ list_at lists.old other) }
+{
+    reach(alloc, lists, base)?;
+    lists.get_mut(base).push(MarkedRow {
+        visible: true,
+        values: row,
+    })
+}
+
+/// Adds empty lists until there is one of that number.
+fn reach(alloc: Global, lists: &mut TableRows, base: usize) -> Result<(), AllocError>
+    ensures reached { OnOk result (base < length lists.new) }
+    ensures kept { (other : ℕ) → list_at lists.new other ≡ list_at lists.old other }
+{
+    while lists.len() <= base {
+        lists.push(List::new(alloc))?;
     }
     Ok(())
 }
 
-/// Adds a visible row at the end of the table of that number, or leaves all as it was.
-fn push_row(current: &mut Content, number: usize, row: Row) -> Result<(), AllocError>
-    requires there { number < length current.old }
-    requires made { (slice_index_or current.old number no_rows).made < 2 ^ 63 }
-    ensures ok { OnOk result (current.new ≡ slice_set current.old number (with_row (slice_index_or current.old number no_rows) row)) }
-    ensures err { OnErr result (current.new ≡ current.old) }
+/// Counts a further row of a tenant's table. It takes no memory.
+fn count_row(catalog: &mut Catalog, tenant: u32, base: usize)
+    requires { (table : KeptTable) → tenant_table catalog.old tenant base ≡ Some table → table.made < 2 ^ 63 }
+    ensures { catalog.new ≡ made_one catalog.old tenant base }
 {
-    let content = current.get_mut(number);
-    content.rows.push(MarkedRow {
-        visible: true,
-        values: row,
-    })?;
-    content.made += 1;
-    Ok(())
+    if let Some(entry) = catalog.tenants.get_mut(&tenant) {
+        count_in(entry, base);
+    }
+}
+
+/// Counts a further row of the tenant's table.
+fn count_in(entry: &mut TenantEntry, base: usize)
+    requires { (table : KeptTable) → slice_get entry.old.tables base ≡ Some table → table.made < 2 ^ 63 }
+    ensures { entry.new ≡ with_table base one_more_made entry.old }
+{
+    if base < entry.tables.len() {
+        entry.tables.get_mut(base).made += 1;
+    }
 }

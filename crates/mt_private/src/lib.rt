@@ -13,6 +13,7 @@ mod names;
 mod plain;
 mod print;
 mod said;
+mod seen;
 mod select;
 mod served;
 mod statement;

@@ -1,45 +1,73 @@
 ghost use Rattle.std.specs.Prelude.{◌≡◌, map, slice_index_or, IfOk, is_some, unwrap_or};
 ghost use Rattle.std.specs.List.{list_all};
-ghost use Rattle.mt_value.specs.Sorted.{in_row_order};
+ghost use Rattle.mt_value.specs.declared.value.Value.TheVariants as values;
 ghost use Rattle.mt_tree.specs.declared.simple.SimpleStmt.TheVariants.{Select};
 ghost use Rattle.mt_model.specs.Said.{Says};
-ghost use Rattle.mt_model.specs.Answer.{first_holding, select_tests, output_names, places_of, projected, select_text};
-ghost use Rattle.mt_model.specs.Database.{no_rows};
+ghost use Rattle.mt_model.specs.Answer.{answer_within, output_names, projected, select_text};
+ghost use Rattle.mt_model.specs.Request.{Statement};
+ghost use Rattle.mt_model.specs.Service.{Service};
 ghost use Rattle.mt_model.specs.Tables.{column_place};
-ghost use Rattle.mt_private.specs.Kept.{IsDatabase};
-ghost use Rattle.mt_private.specs.Visible.{visible_values, select_text_of};
+ghost use Rattle.mt_private.specs.Kept.{AreKept};
 ghost use Rattle.mt_private.specs.Outcome.{IsAnswered};
+ghost use Rattle.mt_private.specs.Seen.{IsSeen, database_in, view_in};
+ghost use Rattle.mt_private.specs.Visible.{visible_values, select_text_of};
 
-use crate::names::{column_place, table_number};
+use crate::kept::TenantRows;
+use crate::names::column_place;
 use crate::print::{push_names, push_rows};
+use crate::seen::{base_number, columns_in, lists_of, rows_at, tenant_of};
+use mt_catalog::{Catalog, TenantEntry};
 use mt_list::{Duplicate, List};
-use mt_model::{Content, PrivateDatabase};
-use mt_tree::{Code, Column, Columns, MarkedRow, Names, Reply, ReplyText, Schema};
+use mt_model::parts_tell_the_service;
+use mt_tree::{Code, Column, Columns, MarkedRow, Names, Reply, ReplyText};
 use mt_value::{Row, Rows, Str, Value, sort_rows};
 use std::alloc::{AllocError, Global};
 
 /// Answers a SELECT.
 pub(crate) fn select(
     alloc: Global,
-    tables: &Schema,
-    database: &PrivateDatabase,
+    catalog: &Catalog,
+    rows: &TenantRows,
+    tenant: u32,
     table: &Str,
     names: Names,
 ) -> Reply
-    requires { IsDatabase tables.now database.now }
-    ensures { IsAnswered tables.now database.now database.now (Says (Select table.now names)) result }
+    requires { (service : Service) × AreKept catalog.now rows.now.entries service }
+    ensures { IsAnswered catalog.now catalog.now rows.now.entries rows.now.entries (Statement tenant (Says (Select table.now names))) result }
 {
-    let Some(number) = table_number(tables.as_slice(), table) else {
-        return Reply::Refused(Code::UnknownTable);
+    parts_tell_the_service();
+    let Some(entry) = tenant_of(catalog, tenant) else {
+        return Reply::Refused(Code::UnknownTenant);
     };
-    let columns = tables.get(number).columns.as_slice();
-    if !are_known(columns, names.as_slice()) {
-        return Reply::Refused(Code::UnknownColumn);
-    }
-    match select_text(alloc, columns, rows_of(&database.current, number), names) {
-        Ok(text) => Reply::Text(text),
+    match selected(alloc, catalog, entry, lists_of(rows, tenant), table, names) {
+        Ok(reply) => reply,
         Err(AllocError) => Reply::Memory,
     }
+}
+
+/// The reply to a tenant that sees this.
+fn selected(
+    alloc: Global,
+    catalog: &Catalog,
+    entry: &TenantEntry,
+    lists: &[List<MarkedRow>],
+    table: &Str,
+    names: Names,
+) -> Result<Reply, AllocError>
+    requires { IsSeen catalog.now entry.now lists.now }
+    ensures { IfOk result (λ reply. reply ≡ answer_within (view_in catalog.now entry.now lists.now) (database_in entry.now lists.now) (Select table.now names)) }
+{
+    let Some(base) = base_number(catalog, table) else {
+        return Ok(Reply::Refused(Code::UnknownTable));
+    };
+    let own = entry.tables.get(base);
+    let columns = columns_in(alloc, catalog, base, own.extended.as_slice())?;
+    let columns = columns.as_slice();
+    if !are_known(columns, names.as_slice()) {
+        return Ok(Reply::Refused(Code::UnknownColumn));
+    }
+    let text = select_text(alloc, columns, rows_at(lists, base), names)?;
+    Ok(Reply::Text(text))
 }
 
 /// Whether each name is that of a column.
@@ -49,17 +77,6 @@ fn are_known(columns: &[Column], names: &[Str]) -> bool
     names
         .iter()
         .all(|name| column_place(columns, name).is_some())
-}
-
-/// The rows of the table of that number, also those in the trashcan.
-fn rows_of(current: &Content, number: usize) -> &[MarkedRow]
-    ensures { result.now ≡ (slice_index_or current.now number no_rows).rows }
-{
-    if number < current.len() {
-        current.get(number).rows.as_slice()
-    } else {
-        &[]
-    }
 }
 
 /// The text that answers a SELECT of these rows.
@@ -143,7 +160,7 @@ fn projected(alloc: Global, row: &Row, places: &[usize]) -> Result<Row, AllocErr
 
 /// The value at a place of a row, and NULL where the row has none there.
 fn value_at(alloc: Global, row: &Row, place: usize) -> Result<Value, AllocError>
-    ensures { IfOk result (λ value. value ≡ slice_index_or row.now place Value.Null) }
+    ensures { IfOk result (λ value. value ≡ slice_index_or row.now place values.Null) }
 {
     if place < row.len() {
         row.get(place).copy(alloc)
