@@ -1,8 +1,8 @@
-pub mod Decided
-pub mod Filled
+pub mod Counted
 pub mod Found
+pub mod Lists
+pub mod Made
 pub mod Printing
-pub mod Repeats
 pub mod Service
 pub mod Yields
 pub mod Steps

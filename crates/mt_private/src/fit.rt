@@ -108,12 +108,21 @@ fn is_among(columns: &[Column], rows: &[MarkedRow], values: &[Value]) -> bool
 {
     let mut rest = rows;
     while let Some((row, others)) = rest.split_first() {
-        if row.visible && has_same_key(columns, row.values.as_slice(), values) {
+        if shows_key(columns, row, values) {
             return true;
         }
         rest = others;
     }
     false
+}
+
+/// Whether a row is visible and has the key of these values.
+fn shows_key(columns: &[Column], row: &MarkedRow, values: &[Value]) -> bool
+    requires row { length row.now.values ≡ length columns.now }
+    requires values { length values.now ≡ length columns.now }
+    ensures { result ≡ (row.now.visible && is_eq (row_order (key_of columns.now row.now.values) (key_of columns.now values.now))) }
+{
+    row.visible && has_same_key(columns, row.values.as_slice(), values)
 }
 
 /// Whether two rows have one key.

@@ -1,4 +1,5 @@
 ghost use Rattle.std.specs.Prelude.{◌≡◌, ℕ, ◌+◌, ◌<◌, ◌≤◌, ◌^◌, ◌++◌, ◌∷◌, [], true, not, cond, nat_eq, nat_lt, map, codes, length, slice_get, Some, IfOk, OnOk, OnErr};
+ghost use Rattle.mt_tree.specs.declared.code.Code.TheVariants.{QuotaFull, RowNumbersUsedUp};
 ghost use Rattle.mt_tree.specs.declared.simple.SimpleStmt.TheVariants.{Insert};
 ghost use Rattle.mt_catalog.specs.declared.state.TenantTable.{TenantTable as KeptTable};
 ghost use Rattle.mt_catalog.specs.State.{tenant_table};
@@ -104,6 +105,13 @@ fn row_refusal(
     if repeats_key(columns, rows, values) {
         return Some(Code::DuplicateKey);
     }
+    count_refusal(has_room, made)
+}
+
+/// Why there may not be a row more.
+fn count_refusal(has_room: bool, made: u64) -> Option<Code>
+    ensures { result ≡ first_holding ((QuotaFull, not has_room) ∷ (RowNumbersUsedUp, nat_lt (2 ^ 63) (made + 1)) ∷ []) }
+{
     if !has_room {
         return Some(Code::QuotaFull);
     }

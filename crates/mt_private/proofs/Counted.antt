@@ -1,0 +1,35 @@
+-- Sums over the numbers from one on.
+use Rattle.std.proofs.Common.{◌≡◌, ℕ, zero, suc, ◌+◌, ◌<◌, ◌≤◌, ◌-◌, sum_by, sym, ap, ◌∙◌, arith}
+use Rattle.std.specs.List.{range_with_len}
+use Rattle.std.proofs.lemmas.List.Sums.{sum_by-cons}
+
+-- the first so many, and then the others
+pub sum_split : (f : ℕ → ℕ) (from count more : ℕ) → sum_by f (range_with_len from (count + more)) ≡ sum_by f (range_with_len from count) + sum_by f (range_with_len (from + count) more)
+sum_split f from zero more =
+    let same : from ≡ from + 0 = omega arith in
+    ap (λ n. sum_by f (range_with_len n more)) same
+sum_split f from (suc count) more =
+    let whole = sum_by-cons f from (range_with_len (from + 1) (count + more)) in
+    let split = sum_split f (from + 1) count more in
+    let front = sum_by-cons f from (range_with_len (from + 1) count) in
+    let same : (from + 1) + count ≡ from + suc count = omega arith in
+    let others = ap (λ n. sum_by f (range_with_len n more)) same in
+    omega (arith, whole, split, front, others)
+
+-- one more
+pub sum_more : (f : ℕ → ℕ) (count : ℕ) → sum_by f (range_with_len 0 (count + 1)) ≡ sum_by f (range_with_len 0 count) + f count
+sum_more f count =
+    let split = sum_split f 0 count 1 in
+    let one = sum_by-cons f (0 + count) (range_with_len (0 + count + 1) 0) in
+    let same : 0 + count ≡ count = omega arith in
+    let last = ap f same in
+    omega (arith, split, one, last)
+
+-- one of them, and those before it
+pub sum_within : (f : ℕ → ℕ) (at count : ℕ) → at < count → sum_by f (range_with_len 0 at) + f at ≤ sum_by f (range_with_len 0 count)
+sum_within f at count below =
+    let same : (at + 1) + (count - (at + 1)) ≡ count = omega (arith, below) in
+    let whole = ap (λ n. sum_by f (range_with_len 0 n)) same in
+    let split = sum_split f 0 (at + 1) (count - (at + 1)) in
+    let more = sum_more f at in
+    omega (arith, whole, split, more)
