@@ -6,8 +6,11 @@ use Rattle.std.proofs.lemmas.List.Sums.{sum_by-cons}
 -- the first so many, and then the others
 pub sum_split : (f : ℕ → ℕ) (from count more : ℕ) → sum_by f (range_with_len from (count + more)) ≡ sum_by f (range_with_len from count) + sum_by f (range_with_len (from + count) more)
 sum_split f from zero more =
+    let none : 0 + more ≡ more = omega arith in
     let same : from ≡ from + 0 = omega arith in
-    ap (λ n. sum_by f (range_with_len n more)) same
+    let whole = ap (λ n. sum_by f (range_with_len from n)) none in
+    let others = ap (λ n. sum_by f (range_with_len n more)) same in
+    omega (arith, whole, others)
 sum_split f from (suc count) more =
     let whole = sum_by-cons f from (range_with_len (from + 1) (count + more)) in
     let split = sum_split f (from + 1) count more in

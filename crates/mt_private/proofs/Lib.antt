@@ -1,9 +1,11 @@
+pub mod Adding
 pub mod Counted
 pub mod Found
 pub mod Lists
 pub mod Made
 pub mod Printing
 pub mod Service
+pub mod Sound
 pub mod Yields
 pub mod Steps
 pub mod Sizes

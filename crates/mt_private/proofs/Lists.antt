@@ -30,4 +30,4 @@ at_set lists base rows below other = ⊎_elim own apart (cases_eq other base)
     own same = ap (list_at (slice_set lists base rows)) same ∙ get_or-set_same lists base rows [] below ∙ sym (ap (λ here. cond here rows (list_at lists other)) (eq-eqb other base same))
 
     apart : other ≢ base → list_at (slice_set lists base rows) other ≡ cond (nat_eq other base) rows (list_at lists other)
-    apart no = get_or-set_other lists base other rows [] no ∙ sym (ap (λ here. cond here rows (list_at lists other)) (ne_eqb other base no))
+    apart differs = get_or-set_other lists base other rows [] differs ∙ sym (ap (λ here. cond here rows (list_at lists other)) (ne_eqb other base differs))
