@@ -12,9 +12,11 @@ sum_split f from zero more =
     let others = ap (λ n. sum_by f (range_with_len n more)) same in
     omega (arith, whole, others)
 sum_split f from (suc count) more =
-    let whole = sum_by-cons f from (range_with_len (from + 1) (count + more)) in
+    let shifted : suc count + more ≡ suc (count + more) = omega arith in
+    let whole : sum_by f (range_with_len from (suc count + more)) ≡ f from + sum_by f (range_with_len (from + 1) (count + more)) =
+    ap (λ n. sum_by f (range_with_len from n)) shifted ∙ sum_by-cons f from (range_with_len (from + 1) (count + more)) in
     let split = sum_split f (from + 1) count more in
-    let front = sum_by-cons f from (range_with_len (from + 1) count) in
+    let front : sum_by f (range_with_len from (suc count)) ≡ f from + sum_by f (range_with_len (from + 1) count) = sum_by-cons f from (range_with_len (from + 1) count) in
     let same : (from + 1) + count ≡ from + suc count = omega arith in
     let others = ap (λ n. sum_by f (range_with_len n more)) same in
     omega (arith, whole, split, front, others)

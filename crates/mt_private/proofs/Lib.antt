@@ -1,5 +1,6 @@
 pub mod Adding
 pub mod Counted
+pub mod Databases
 pub mod Found
 pub mod Lists
 pub mod Made

@@ -19,6 +19,6 @@ loop-row-preserved c =
     record {
       whole = All-tail fits c.in-Some.row.now c.in-Some.others.now (subst (All fits) c.in-Some.ensures.cases.0 c.loop-row.invariant.whole);
       left =
-          sym (passed test c.in-Some.row.now c.in-Some.others.now c.in-Some.row.now.visible (sym c.shows_key.ensures ∙ c.if-shows_key.false))
+          sym (passed test c.in-Some.row.now (visible_of c.in-Some.others.now) c.in-Some.row.now.visible (sym c.shows_key.ensures ∙ c.if-shows_key.false))
           ∙ sym (ap (λ rows. list_any test (visible_of rows)) c.in-Some.ensures.cases.0) ∙ c.loop-row.invariant.left;
     }

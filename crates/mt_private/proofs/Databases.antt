@@ -1,0 +1,93 @@
+-- The database of what is kept of a tenant, table by table.
+use Rattle.std.proofs.Common.{◌≡◌, ℕ, zero, suc, ◌+◌, Bool, true, false, not, List, [], ◌∷◌, length, map, sum_by, Option, None, Some, unwrap_or, refl, sym, ap, ◌∙◌, arith}
+use Rattle.std.specs.Prelude.{option_map, slice_get, slice_index_or}
+use Rattle.std.specs.List.{range_with_len}
+use Rattle.std.proofs.lemmas.List.Sums.{sum_by-cons}
+use Rattle.std.proofs.lemmas.Option.{get_or_from_slice_get, slice_get-map}
+use Rattle.mt_tree.specs.declared.code.Code.{Code}
+use Rattle.mt_tree.specs.declared.code.Code.TheVariants.{TypesDoNotFit, UnknownTable}
+use Rattle.mt_tree.specs.declared.expression.Literal.{Literal}
+use Rattle.mt_tree.specs.declared.row.MarkedRow.{MarkedRow}
+use Rattle.mt_tree.specs.declared.row.TableContent.{TableContent}
+use Rattle.mt_tree.specs.declared.schema.Column.{Column}
+use Rattle.mt_tree.specs.declared.simple.SimpleStmt.{SimpleStmt}
+use Rattle.mt_tree.specs.declared.simple.SimpleStmt.TheVariants.{Insert}
+use Rattle.mt_tree.specs.Rows.{no_rows}
+use Rattle.mt_catalog.specs.declared.state.TenantEntry.{TenantEntry}
+use Rattle.mt_catalog.specs.declared.state.TenantTable.{TenantTable}
+use Rattle.mt_catalog.specs.Found.{columns_among}
+use Rattle.mt_catalog.specs.State.{State, extended_columns}
+use Rattle.mt_schema.specs.Refusals.{first_holding}
+use Rattle.mt_schema.specs.Steps.{table_number}
+use Rattle.mt_model.specs.Answer.{columns_of, content_of, first_refusal, insert_tests, table_of, tests_at}
+use Rattle.mt_model.specs.Database.{PrivateDatabase, kept_rows}
+use Rattle.mt_model.specs.Parts.{contents_from}
+use Rattle.mt_model.specs.Service.{View}
+use Rattle.mt_model.specs.Tables.{fit_columns, value_of}
+use Rattle.mt_private.specs.Seen.{database_in, kept_in, list_at, row_tests, view_in}
+
+-- what a table holds of which this is kept
+abbrev pub content : TenantTable → List MarkedRow → TableContent
+content table rows = record { made = table.made; rows = rows }
+
+pub contents_at : (rows : ℕ → List MarkedRow) (from : ℕ) (tables : List TenantTable) (n : ℕ) (own : TenantTable) → slice_get tables n ≡ Some own → slice_get (contents_from rows from tables) n ≡ Some (content own (rows (from + n)))
+contents_at rows from [] n own got = absurd (cc)
+contents_at rows from (table ∷ tables) zero own got =
+    let same : table ≡ own = cc in
+    let here : from ≡ from + 0 = omega arith in
+    ap (λ (of : TenantTable). Some (content of (rows from))) same ∙ ap (λ n. Some (content own (rows n))) here
+contents_at rows from (table ∷ tables) (suc n) own got =
+    let here : (from + 1) + n ≡ from + suc n = omega arith in
+    contents_at rows (from + 1) tables n own got ∙ ap (λ n. Some (content own (rows n))) here
+
+kept_contents : (rows : ℕ → List MarkedRow) (from : ℕ) (tables : List TenantTable) → sum_by (λ (table : TableContent). length table.rows) (contents_from rows from tables) ≡ sum_by (λ base. length (rows base)) (range_with_len from (length tables))
+kept_contents rows from [] = refl
+kept_contents rows from (table ∷ tables) =
+    sum_by-cons (λ (table : TableContent). length table.rows) (content table (rows from)) (contents_from rows (from + 1) tables)
+    ∙ ap (λ n. length (rows from) + n) (kept_contents rows (from + 1) tables)
+    ∙ sym (sum_by-cons (λ base. length (rows base)) from (range_with_len (from + 1) (length tables)))
+
+-- the tests of a statement whose table is there, or not
+pub refusal_at : (view : View) (database : PrivateDatabase) (statement : SimpleStmt) (base : ℕ) → table_number view.tables (table_of statement) ≡ Some base → first_refusal view database statement ≡ first_holding (tests_at view database statement base)
+refusal_at view database statement base is =
+    ap (λ (found : Option ℕ). first_holding (elim found as (λ _. List (Code × Bool)) [ None ↦ (UnknownTable, true) ∷ [] | Some number ↦ tests_at view database statement number ])) is
+
+pub refusal_nowhere : (view : View) (database : PrivateDatabase) (statement : SimpleStmt) → table_number view.tables (table_of statement) ≡ None → first_refusal view database statement ≡ Some UnknownTable
+refusal_nowhere view database statement none =
+    ap (λ (found : Option ℕ). first_holding (elim found as (λ _. List (Code × Bool)) [ None ↦ (UnknownTable, true) ∷ [] | Some number ↦ tests_at view database statement number ])) none
+
+module _ (state : State) (entry : TenantEntry) (lists : List (List MarkedRow)) where
+  abbrev database : PrivateDatabase
+  database = database_in entry lists
+
+  abbrev view : View
+  view = view_in state entry lists
+
+  pub kept_is : kept_rows database ≡ kept_in lists (length entry.tables)
+  kept_is = kept_contents (list_at lists) 0 entry.tables
+
+  module _ (base : ℕ) (own : TenantTable) (got : slice_get entry.tables base ≡ Some own) where
+    pub content_got : slice_get database.current base ≡ Some (content own (list_at lists base))
+    content_got =
+        let here : 0 + base ≡ base = omega arith in
+        contents_at (list_at lists) 0 entry.tables base own got ∙ ap (λ n. Some (content own (list_at lists n))) here
+
+    pub content_is : content_of database base ≡ content own (list_at lists base)
+    content_is = get_or_from_slice_get database.current base (content own (list_at lists base)) no_rows content_got
+
+    pub columns_is : columns_of view database base ≡ extended_columns state base own.extended
+    columns_is =
+        ap (columns_among state.bases state.extensions base)
+        (get_or_from_slice_get database.extended base own.extended [] (slice_get-map (λ (table : TenantTable). table.extended) entry.tables base ∙ ap (option_map (λ (table : TenantTable). table.extended)) got))
+
+    abbrev parts_tests : List Literal → List Column → TableContent → ℕ → List (Code × Bool)
+    parts_tests literals columns of kept = (TypesDoNotFit, not (fit_columns columns literals)) ∷ row_tests columns of.rows (map value_of literals) entry.quota kept of.made
+
+    -- the first refusal of an INSERT
+    pub insert_refusal : (table : List ℕ) (literals : List Literal) → table_number state.bases table ≡ Some base
+        → first_refusal view database (Insert table literals) ≡ first_holding (parts_tests literals (extended_columns state base own.extended) (content own (list_at lists base)) (kept_in lists (length entry.tables)))
+    insert_refusal table literals is =
+        refusal_at view database (Insert table literals) base is
+        ∙ ap (λ columns. first_holding (parts_tests literals columns (content_of database base) (kept_rows database))) columns_is
+        ∙ ap (λ of. first_holding (parts_tests literals (extended_columns state base own.extended) of (kept_rows database))) content_is
+        ∙ ap (λ kept. first_holding (parts_tests literals (extended_columns state base own.extended) (content own (list_at lists base)) kept)) kept_is

@@ -1,0 +1,2 @@
+use Rattle.mt_private.proofs.Databases.{insert_refusal}
+use Rattle.mt_private.proofs.insert.checked.Goals as goal
