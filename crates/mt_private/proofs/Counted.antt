@@ -1,6 +1,7 @@
 -- Sums over the numbers from one on.
-use Rattle.std.proofs.Common.{◌≡◌, ℕ, zero, suc, ◌+◌, ◌<◌, ◌≤◌, ◌-◌, sum_by, sym, ap, ◌∙◌, arith}
+use Rattle.std.proofs.Common.{◌≡◌, ◌≢◌, ⊎_elim, ℕ, zero, suc, ◌+◌, ◌<◌, ◌≤◌, ◌-◌, sum_by, refl, sym, ap, ◌∙◌, arith}
 use Rattle.std.specs.List.{range_with_len}
+use Rattle.std.proofs.lemmas.Bool.{cases_eq}
 use Rattle.std.proofs.lemmas.List.Sums.{sum_by-cons}
 
 -- the first so many, and then the others
@@ -38,3 +39,35 @@ sum_within f at count below =
     let split = sum_split f 0 (at + 1) (count - (at + 1)) in
     let more = sum_more f at in
     omega (arith, whole, split, more)
+
+-- two sums that agree from there on
+pub sum_same : (f g : ℕ → ℕ) (from count : ℕ) → ((n : ℕ) → from ≤ n → f n ≡ g n) → sum_by f (range_with_len from count) ≡ sum_by g (range_with_len from count)
+sum_same f g from zero same = refl
+sum_same f g from (suc count) same =
+    let own : f from ≡ g from = same from (omega arith) in
+    let others = sum_same f g (from + 1) count (λ n above. same n (omega (arith, above))) in
+    sum_by-cons f from (range_with_len (from + 1) count) ∙ ap (λ n. n + sum_by f (range_with_len (from + 1) count)) own ∙ ap (λ n. g from + n) others
+    ∙ sym (sum_by-cons g from (range_with_len (from + 1) count))
+
+-- at most one more, where at most one number has one more
+pub sum_one_more : (f g : ℕ → ℕ) (at from count : ℕ) → g at ≤ f at + 1 → ((n : ℕ) → n ≢ at → g n ≡ f n) → sum_by g (range_with_len from count) ≤ sum_by f (range_with_len from count) + 1
+sum_one_more f g at from zero more same = omega arith
+sum_one_more f g at from (suc count) more same = ⊎_elim here (λ differs. elsewhere differs (sum_one_more f g at (from + 1) count more same)) (cases_eq from at)
+  where
+    whole_f : sum_by f (range_with_len from (suc count)) ≡ f from + sum_by f (range_with_len (from + 1) count)
+    whole_f = sum_by-cons f from (range_with_len (from + 1) count)
+
+    whole_g : sum_by g (range_with_len from (suc count)) ≡ g from + sum_by g (range_with_len (from + 1) count)
+    whole_g = sum_by-cons g from (range_with_len (from + 1) count)
+
+    here : from ≡ at → sum_by g (range_with_len from (suc count)) ≤ sum_by f (range_with_len from (suc count)) + 1
+    here is =
+        let others = sum_same g f (from + 1) count (λ n above. same n (λ e. absurd (omega (arith, above, e, is)))) in
+        let of_f = ap f is in
+        let of_g = ap g is in
+        omega (arith, whole_f, whole_g, others, of_f, of_g, more)
+
+    elsewhere : from ≢ at → sum_by g (range_with_len (from + 1) count) ≤ sum_by f (range_with_len (from + 1) count) + 1 → sum_by g (range_with_len from (suc count)) ≤ sum_by f (range_with_len from (suc count)) + 1
+    elsewhere differs rest =
+        let own = same from differs in
+        omega (arith, whole_f, whole_g, own, rest)
