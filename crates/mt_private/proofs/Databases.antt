@@ -23,7 +23,7 @@ use Rattle.mt_catalog.specs.Found.{columns_among}
 use Rattle.mt_catalog.specs.State.{State, extended_columns}
 use Rattle.mt_schema.specs.Refusals.{first_holding}
 use Rattle.mt_schema.specs.Steps.{table_number}
-use Rattle.mt_model.specs.Answer.{answer_within, columns_of, content_of, first_refusal, reply_text, table_of, tests_at}
+use Rattle.mt_model.specs.Answer.{answer_within, changed, columns_of, content_of, first_refusal, next_within, reply_text, table_of, tests_at}
 use Rattle.mt_model.specs.Database.{PrivateDatabase, kept_rows}
 use Rattle.mt_model.specs.Parts.{contents_from}
 use Rattle.mt_model.specs.Service.{View}
@@ -148,3 +148,18 @@ fit_length [] [] fits = refl
 fit_length [] (literal ∷ literals) fits = absurd (cc)
 fit_length (column ∷ columns) [] fits = absurd (cc)
 fit_length (column ∷ columns) (literal ∷ literals) fits = ap suc (fit_length columns literals (and_parts _ _ fits).1)
+
+-- a statement that is refused changes nothing
+pub next_refused : (view : View) (database : PrivateDatabase) (statement : SimpleStmt) (code : Code) → first_refusal view database statement ≡ Some code → next_within view database statement ≡ database
+next_refused view database statement code e = ap (λ (refusal : Option Code). elim refusal as (λ _. PrivateDatabase) [ None ↦ changed view database statement | Some code ↦ database ]) e
+
+pub next_done : (view : View) (database : PrivateDatabase) (statement : SimpleStmt) → first_refusal view database statement ≡ None → next_within view database statement ≡ changed view database statement
+next_done view database statement e = ap (λ (refusal : Option Code). elim refusal as (λ _. PrivateDatabase) [ None ↦ changed view database statement | Some code ↦ database ]) e
+
+-- nor does a SELECT
+pub next_selected : (view : View) (database : PrivateDatabase) (table : List ℕ) (names : List (List ℕ)) → next_within view database (Select table names) ≡ database
+next_selected view database table names = by (first_refusal view database (Select table names))
+  where
+    by : (refusal : Option Code) → elim refusal as (λ _. PrivateDatabase) [ None ↦ database | Some code ↦ database ] ≡ database
+    by None = refl
+    by (Some code) = refl

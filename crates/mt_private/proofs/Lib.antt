@@ -1,7 +1,9 @@
 pub mod Adding
 pub mod Counted
 pub mod Databases
+pub mod Forgone
 pub mod Found
+pub mod Keeping
 pub mod Lists
 pub mod Made
 pub mod Printing
