@@ -1,16 +1,15 @@
 -- The rules that the slots of a tenant's table keep.
-use Rattle.std.specs.Prelude.{◌≡◌, ℕ, ◌≤◌, ◌<◌, false, List, map, slice_get, take, Some}
+use Rattle.std.specs.Prelude.{◌≡◌, ℕ, ◌≤◌, ◌<◌, List, map, slice_get, take, Some}
 use Rattle.mt_codec.specs.declared.field.FieldKind.{FieldKind}
 use Rattle.mt_codec.specs.declared.field.FieldKind.TheVariants as field_kinds
 use Rattle.mt_rowfile.specs.declared.slot.SlotRow.{SlotRow}
 use Rattle.mt_rowfile.specs.Fields.{AreFitting}
 use Rattle.mt_rowfile.specs.Layouts.{chunk_kinds}
 use Rattle.mt_physplan.specs.Content.{Content}
-use Rattle.mt_tree.specs.declared.row.MarkedRow.{MarkedRow}
 use Rattle.mt_tree.specs.declared.schema.Column.{Column}
 use Rattle.mt_tree.specs.declared.schema.Kind.{Kind}
 use Rattle.mt_tree.specs.declared.schema.Kind.TheVariants.{Integer, Varchar}
-use Rattle.mt_tree.specs.Rows.{has_duplicate_key, has_long_text, has_null}
+use Rattle.mt_tree.specs.Rows.{AreSound}
 use Rattle.mt_fold.specs.declared.shape.Shape.{Shape}
 use Rattle.mt_fold.specs.Placements.{chunk_number, folded_at}
 use Rattle.mt_rows.specs.Assembled.{Kept, assembled}
@@ -33,13 +32,6 @@ conventional_kind (Varchar size) = field_kinds.Text size
 -- the fields of a conventional row, by the base table's columns
 abbrev pub conventional_kinds : List Column → List FieldKind
 conventional_kinds columns = map (λ column. conventional_kind column.kind) columns
-
--- The rows keep what the table's columns ask: no text is too long and no value missing, also in the
--- trashcan, and no two visible rows have one key.
-pub record AreSound (columns : List Column) (rows : List MarkedRow) : Type 0 where
-  pub no_long_text : has_long_text columns rows ≡ false
-  pub no_null : has_null columns rows ≡ false
-  pub no_duplicate_key : has_duplicate_key columns rows ≡ false
 
 -- The slots of a tenant's table with these columns, the first so many of which are the base table's,
 -- and of which so many rows were ever made.

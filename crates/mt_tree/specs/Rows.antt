@@ -1,5 +1,5 @@
 -- The rows of a table, and which lists of rows its columns refuse.
-use Rattle.std.specs.Prelude.{◌+◌, Bool, true, false, not, ◌&&◌, ◌||◌, nat_le, if◌then◌else◌, List, [], ◌∷◌, ◌++◌, length, map, filter}
+use Rattle.std.specs.Prelude.{◌≡◌, ◌+◌, Bool, true, false, not, ◌&&◌, ◌||◌, nat_le, if◌then◌else◌, List, [], ◌∷◌, ◌++◌, length, map, filter}
 use Rattle.std.specs.List.{list_any}
 use Rattle.std.specs.Ordering.{is_eq}
 use Rattle.mt_value.specs.declared.value.Value.{Value}
@@ -63,3 +63,10 @@ has_null columns rows = list_any (λ row. some_value is_missing columns row.valu
 abbrev pub has_duplicate_key : List Column → List MarkedRow → Bool
 has_duplicate_key columns rows =
     list_any (λ column. column.key) columns && has_equal_keys (map (λ row. key_of columns row.values) (visible_of rows))
+
+-- The rows keep what the table's columns ask: no text is too long and no value missing, also in the
+-- trashcan, and no two visible rows have one key.
+pub record AreSound (columns : List Column) (rows : List MarkedRow) : Type 0 where
+  pub no_long_text : has_long_text columns rows ≡ false
+  pub no_null : has_null columns rows ≡ false
+  pub no_duplicate_key : has_duplicate_key columns rows ≡ false
