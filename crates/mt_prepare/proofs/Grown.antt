@@ -23,12 +23,12 @@ use Rattle.mt_schema.specs.Changed.{generation_of, table_keys}
 use Rattle.mt_schema.specs.Refusals.{extension_named}
 
 -- the test by which an extension is found
-abbrev pub is_named : List ℕ → Extension → Bool
+abbrev is_named : List ℕ → Extension → Bool
 is_named name extension = bytes_eq extension.name name
 
 module _ (state : State) (name : List ℕ) where
   -- the extension of a name is the first of that name
-  pub named_is : extension_named state name ≡ find (is_named name) state.extensions
+  named_is : extension_named state name ≡ find (is_named name) state.extensions
   named_is = by (nat_lt at (length state.extensions)) refl
     where
       at : ℕ
@@ -38,9 +38,9 @@ module _ (state : State) (name : List ℕ) where
       by true e = sym (find_at (is_named name) state.extensions)
       by false e = sym (find_at (is_named name) state.extensions ∙ slice_get_past state.extensions at (ltb-false at (length state.extensions) e))
 
-  pub few_named : (extension : Extension) → IsCatalogue state → find (is_named name) state.extensions ≡ Some extension → length extension.columns ≤ 16
+  pub few_named : (extension : Extension) → IsCatalogue state → extension_named state name ≡ Some extension → length extension.columns ≤ 16
   few_named extension rules e =
-      (member_keeps (IsExtension state) state.extensions (position_or_len (is_named name) state.extensions) extension rules.extensions (sym (find_at (is_named name) state.extensions) ∙ e)).columns.few
+      (member_keeps (IsExtension state) state.extensions (position_or_len (is_named name) state.extensions) extension rules.extensions (sym (find_at (is_named name) state.extensions) ∙ sym named_is ∙ e)).columns.few
 
 module _ (state : State) (rules : IsCatalogue state) (tenant base : ℕ) (table : TenantTable) (there : tenant_table state tenant base ≡ Some table) where
   own : IsOf (slot_of state) state
