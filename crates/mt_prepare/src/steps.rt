@@ -82,8 +82,11 @@ fn made_tenant(
 {
     let mut tables = List::new(alloc);
     add_new_tables(alloc, &mut tables, catalog.bases.as_slice())?;
-    let quota = quota as u32;
-    with_tenant(alloc, catalog, tenant as u32, TenantEntry { quota, tables })
+    let entry = TenantEntry {
+        quota: quota as u32,
+        tables,
+    };
+    with_tenant(alloc, catalog, tenant as u32, entry)
 }
 
 /// The catalogue after SET QUOTA.
