@@ -1,0 +1,4 @@
+pub mod Changed
+pub mod Refusals
+pub mod Steps
+pub mod Turns
