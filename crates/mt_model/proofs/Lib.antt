@@ -1,5 +1,14 @@
 pub mod Seen
 pub mod OneRequest
 pub mod ServedTrees
+pub mod Replies
 pub mod Unchanged
+pub mod InStep
+pub mod Stepped
+pub mod WellFormed
 pub mod Examples
+pub mod PartsTold
+pub mod Widened
+pub mod PartsChanged
+pub mod PartsStepped
+pub mod PartsInserted

@@ -12,19 +12,20 @@ use Rattle.mt_reader.specs.Reading.{ReadsAs, Gives}
 use Rattle.mt_grammar.specs.Statement.{SpellsStmt, IsStmtInside}
 use Rattle.mt_adminlang.specs.Command.{SpellsCommand}
 use Rattle.mt_adminlang.specs.Inside.{IsCommandInside}
-use Rattle.mt_model.specs.Served.{statement_tree, command_tree}
+use Rattle.mt_schema.specs.Steps.{IsSchemaStep}
+use Rattle.mt_model.specs.Served.{statement_tree}
 use Rattle.mt_model.specs.Said.{Said, Unread, Outside, Unserved, Says, IsSaid, IsStatementSaid, IsCommandSaid}
 use Rattle.mt_model.specs.Request.{Request, Overlong, Unreadable, Statement, Command, IsSent, IsRequest}
 use Rattle.mt_script.specs.TagLaws.{HasTag-determined}
-use Rattle.mt_model.proofs.ServedTrees.{IsInjective, IsDecided, statement_tree-injective, command_tree-injective}
+use Rattle.mt_model.proofs.ServedTrees.{IsInjective, IsServedOrNot, statement_tree-injective}
 
 -- a text reads as one tree at most
 abbrev pub IsDetermined : {T : Type 0} → Form T → Type 0
 IsDetermined {T} form = (text : List ℕ) (a b : T) → ReadsAs form text a → ReadsAs form text b → a ≡ b
 
-module _ {Tree T : Type 0} (form : Form Tree) (inside : Tree → Type 0) (tree_of : T → Tree) where
+module _ {Tree T : Type 0} (form : Form Tree) (inside : Tree → Type 0) (tree_of : T → Tree) (served : T → Type 0) where
   -- then it says one thing, where different things have different trees
-  said-determined : IsDetermined form → IsInjective tree_of → (text : List ℕ) (a b : Said T) → IsSaid form inside tree_of text a → IsSaid form inside tree_of text b → a ≡ b
+  said-determined : IsDetermined form → IsInjective tree_of → (text : List ℕ) (a b : Said T) → IsSaid form inside tree_of served text a → IsSaid form inside tree_of served text b → a ≡ b
   said-determined one apart text Unread Unread p q = refl
   said-determined one apart text Unread Outside p q = absurd (p q.0 q.1)
   said-determined one apart text Unread Unserved p q = absurd (p q.0 q.1)
@@ -36,19 +37,19 @@ module _ {Tree T : Type 0} (form : Form Tree) (inside : Tree → Type 0) (tree_o
   said-determined one apart text Unserved Unread p q = absurd (q p.0 p.1)
   said-determined one apart text Unserved Outside p q = absurd (q.2 (subst inside (one text p.0 q.0 p.1 q.1) p.2))
   said-determined one apart text Unserved Unserved p q = refl
-  said-determined one apart text Unserved (Says y) p q = absurd (p.3 (y, one text p.0 (tree_of y) p.1 q.0))
+  said-determined one apart text Unserved (Says y) p q = absurd (p.3 (y, one text p.0 (tree_of y) p.1 q.0, q.2))
   said-determined one apart text (Says x) Unread p q = absurd (q (tree_of x) p.0)
   said-determined one apart text (Says x) Outside p q = absurd (q.2 (subst inside (one text (tree_of x) q.0 p.0 q.1) p.1))
-  said-determined one apart text (Says x) Unserved p q = absurd (q.3 (x, one text q.0 (tree_of x) q.1 p.0))
+  said-determined one apart text (Says x) Unserved p q = absurd (q.3 (x, one text q.0 (tree_of x) q.1 p.0, p.2))
   said-determined one apart text (Says x) (Says y) p q = ap Says (apart x y (one text (tree_of x) (tree_of y) p.0 q.0))
 
   -- what a text says that gives a tree
-  served-said : (text : List ℕ) (tree : Tree) → ReadsAs form text tree → inside tree → IsDecided tree_of tree → (said : Said T) × IsSaid form inside tree_of text said
-  served-said text tree reads is (inl s) = (Says s.0, (subst (λ (tree : Tree). ReadsAs form text tree) s.1 reads, subst inside s.1 is))
+  served-said : (text : List ℕ) (tree : Tree) → ReadsAs form text tree → inside tree → IsServedOrNot tree_of served tree → (said : Said T) × IsSaid form inside tree_of served text said
+  served-said text tree reads is (inl s) = (Says s.0, (subst (λ (tree : Tree). ReadsAs form text tree) s.1 reads, subst inside s.1 is, s.2))
   served-said text tree reads is (inr none) = (Unserved, (tree, reads, is, none))
 
   -- what a text gives is what it says, where each tree is served or is not
-  pub gives-said : ((tree : Tree) → IsDecided tree_of tree) → (text : List ℕ) (r : Result Tree ParseFault) → Gives form inside text r → (r ≡ Err fault.Memory → ⊥) → (said : Said T) × IsSaid form inside tree_of text said
+  pub gives-said : ((tree : Tree) → IsServedOrNot tree_of served tree) → (text : List ℕ) (r : Result Tree ParseFault) → Gives form inside text r → (r ≡ Err fault.Memory → ⊥) → (said : Said T) × IsSaid form inside tree_of served text said
   gives-said decided text (Ok tree) g h = served-said text tree g.0 g.1 (decided tree)
   gives-said decided text (Err fault.Syntax) g h = (Unread, g)
   gives-said decided text (Err fault.Literal) g h = (Outside, g)
@@ -56,10 +57,10 @@ module _ {Tree T : Type 0} (form : Form Tree) (inside : Tree → Type 0) (tree_o
 
 -- what a tenant's text says, and the administrator's
 pub statement-said : IsDetermined SpellsStmt → (text : List ℕ) (a b : _) → IsStatementSaid text a → IsStatementSaid text b → a ≡ b
-statement-said one = said-determined SpellsStmt IsStmtInside statement_tree one statement_tree-injective
+statement-said one = said-determined SpellsStmt IsStmtInside statement_tree (λ statement. Unit {0}) one statement_tree-injective
 
 pub command-said : IsDetermined SpellsCommand → (text : List ℕ) (a b : _) → IsCommandSaid text a → IsCommandSaid text b → a ≡ b
-command-said one = said-determined SpellsCommand IsCommandInside command_tree one command_tree-injective
+command-said one = said-determined SpellsCommand IsCommandInside (λ command. command) IsSchemaStep one (λ a b same. same)
 
 -- one line has one sender and one text
 sender-determined : (bytes : List ℕ) (who other : Who) (says_it says_other : List ℕ → Type 0) → IsSent bytes who says_it → IsSent bytes other says_other → who ≡ other

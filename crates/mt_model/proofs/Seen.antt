@@ -1,25 +1,29 @@
 -- What one request does to what one tenant sees, and then a whole run.
-use Rattle.std.proofs.Common.{◌≡◌, ℕ, ◌==◌, if◌then◌else◌, Bool, true, false, List, [], ◌∷◌, ◌++◌, Option, Some, None, refl, sym, ap, ◌∙◌, ap₂, subst, subst₂, ⊎_elim, eqb-true, codes}
+use Rattle.std.proofs.Common.{◌≡◌, ℕ, ◌==◌, if◌then◌else◌, Bool, true, false, cond, List, [], ◌∷◌, ◌++◌, Option, Some, None, refl, sym, ap, ◌∙◌, ap₂, subst, subst₂, ⊎_elim, eq-eqb, eqb-true, codes}
+use Rattle.std.specs.Prelude.{option_map}
 use Rattle.std.specs.FinMap as finite
 use Rattle.std.specs.Cmp.{nat_eq_equiv}
 use Rattle.mt_tree.specs.declared.code.Code.{Code}
 use Rattle.mt_tree.specs.declared.reply.Reply.{Reply}
 use Rattle.mt_tree.specs.declared.reply.Reply.TheVariants.{Text, Refused, Memory}
 use Rattle.mt_tree.specs.declared.simple.SimpleStmt.{SimpleStmt}
-use Rattle.mt_tree.specs.declared.simple.SimpleDef.{SimpleDef}
 use Rattle.mt_tree.specs.declared.schema.Table.{Table}
-use Rattle.mt_tree.specs.declared.simple.SimpleCmd.{SimpleCmd}
-use Rattle.mt_tree.specs.declared.simple.SimpleCmd.TheVariants.{CreateTable, CreateTenant}
+use Rattle.mt_tree.specs.declared.command.AdminCmd.{AdminCmd}
+use Rattle.mt_tree.specs.declared.command.AdminCmd.TheVariants.{CreateTable, CreateExtension, CreateTenant, Extend, SetQuota}
+use Rattle.mt_tree.specs.declared.command.Def.{Def}
+use Rattle.mt_catalog.specs.declared.state.Extension.{Extension}
+use Rattle.mt_schema.specs.Steps.{defined_table}
+use Rattle.mt_schema.proofs.Maps.{get-in_each}
 use Rattle.mt_script.specs.Lines.{Line}
 use Rattle.mt_model.specs.Said.{Said, Unread, Outside, Unserved, Says}
-use Rattle.mt_model.specs.Database.{PrivateDatabase, with_table_in_each}
+use Rattle.mt_model.specs.Database.{PrivateDatabase, with_extension, with_quota, with_table}
 use Rattle.mt_model.specs.Answer.{answer, answer_said, next_database, next_view, next_said, first_refusal, reply_text}
-use Rattle.mt_model.specs.Command.{command_refusal, applied, applied_view, new_database, table_of_defs}
-use Rattle.mt_model.specs.Isolation.{service_rules, Event, Asks, Accepts, unless_forgone, event_of, own_events, reply_to, replies_to, private_replies}
-use Rattle.mt_model.specs.Laws.{get-in_each, view_with, view_of-put_own, view_of-put_other}
+use Rattle.mt_model.specs.Command.{command_refusal, applied, applied_view, extended_tenant, new_tenant, numbered_extension, with_new_table}
+use Rattle.mt_model.specs.Isolation.{service_rules, Event, Asks, Accepts, bears_on, unless_forgone, event_of, own_events, reply_to, replies_to, private_replies}
+use Rattle.mt_model.specs.Laws.{database_in, view_of-changed_other, view_of-changed_own, view_of-put, view_of-put_other, view_with, with_database}
 use Rattle.mt_model.specs.Request.{Request, Overlong, Unreadable, Statement, Command}
 use Rattle.mt_model.specs.Run.{IsStepped, IsForgone, IsRun}
-use Rattle.mt_model.specs.Service.{Service, View, view_of, put_database}
+use Rattle.mt_model.specs.Service.{Service, Tenant, View, view_of, put_database, with_tenant}
 use Rattle.mt_model.specs.Step.{Stepped, step, refused}
 
 -- The part of a private database's replies that a request makes, before those to later events: this
@@ -36,9 +40,8 @@ forgone-seen tenant service (Statement other said) events =
 forgone-seen tenant service (Command Unread) events = refl
 forgone-seen tenant service (Command Outside) events = refl
 forgone-seen tenant service (Command Unserved) events = refl
-forgone-seen tenant service (Command (Says (CreateTable name columns))) events = refl
-forgone-seen tenant service (Command (Says (CreateTenant other quota))) events =
-    elim (other == tenant) as (λ own. private_replies (view_of service tenant) events ≡ private_replies (view_of service tenant) ((if own then [] else []) ++ events)) [ true ↦ refl | false ↦ refl ]
+forgone-seen tenant service (Command (Says command)) events =
+    elim (bears_on tenant command) as (λ bears. private_replies (view_of service tenant) events ≡ private_replies (view_of service tenant) ((if bears then [] else []) ++ events)) [ true ↦ refl | false ↦ refl ]
 
 -- an answer to a tenant is never that there is no memory
 decided-unless : {A : Type 0} (refusal : Option Code) (text : List ℕ) (x : A) → unless_forgone (elim refusal [ None ↦ Text text | Some code ↦ Refused code ]) x ≡ x ∷ []
@@ -51,14 +54,18 @@ within-unless view database Outside x = refl
 within-unless view database Unserved x = refl
 within-unless view database (Says statement) x = decided-unless (first_refusal view database statement) (reply_text view database statement) x
 
-answer-unless : {A : Type 0} (tables : List Table) (database : Option PrivateDatabase) (said : Said SimpleStmt) (x : A) → unless_forgone (answer (view_with tables database) said) x ≡ x ∷ []
-answer-unless tables None said x = refl
-answer-unless tables (Some database) said x = within-unless (view_with tables (Some database)) database said x
+answer-unless : {A : Type 0} (tables : List Table) (extensions : List Extension) (database : Option PrivateDatabase) (said : Said SimpleStmt) (x : A) → unless_forgone (answer (view_with tables extensions database) said) x ≡ x ∷ []
+answer-unless tables extensions None said x = refl
+answer-unless tables extensions (Some database) said x = within-unless (view_with tables extensions (Some database)) database said x
 
 -- after a statement its tenant sees the next view
-next-own : (service : Service) (tenant : ℕ) (said : Said SimpleStmt) (database : Option PrivateDatabase) → finite.get service.tenants tenant ≡ database → view_of (put_database service tenant (next_database (view_with service.tables database) said)) tenant ≡ next_view (view_with service.tables database) said
-next-own service tenant said None e = ap (view_with service.tables) e
-next-own service tenant said (Some database) e = view_of-put_own service tenant (next_said (view_with service.tables (Some database)) database said)
+next-own : (service : Service) (tenant : ℕ) (said : Said SimpleStmt) (kept : Option Tenant) → finite.get service.tenants tenant ≡ kept →
+    let view : View = view_with service.tables service.extensions (database_in kept) in
+    view_of (put_database service tenant (next_database view said)) tenant ≡ next_view view said
+next-own service tenant said None e = ap (λ (found : Option Tenant). view_with service.tables service.extensions (database_in found)) e
+next-own service tenant said (Some kept) e =
+    let view : View = view_with service.tables service.extensions (Some kept.database) in
+    view_of-changed_own service tenant (with_database (next_said view kept.database said)) (Some kept) e
 
 -- the service after a statement
 abbrev after_statement : Service → ℕ → Said SimpleStmt → Service
@@ -74,44 +81,113 @@ own_statement-seen : (tenant : ℕ) (service : Service) (said : Said SimpleStmt)
 own_statement-seen tenant service said events =
     let view : View = view_of service tenant in
     let reply : Reply = answer view said in
-    ap (λ (replies : List Reply). replies ++ private_replies (view_of (after_statement service tenant said) tenant) events) (answer-unless service.tables view.database said reply)
-    ∙ ap (λ (next : View). reply ∷ private_replies next events) (next-own service tenant said view.database refl)
-    ∙ sym (ap (λ (own : List Event). private_replies view (own ++ events)) (answer-unless service.tables view.database said (Asks said)))
+    ap (λ (replies : List Reply). replies ++ private_replies (view_of (after_statement service tenant said) tenant) events) (answer-unless service.tables service.extensions view.database said reply)
+    ∙ ap (λ (next : View). reply ∷ private_replies next events) (next-own service tenant said (finite.get service.tenants tenant) refl)
+    ∙ sym (ap (λ (own : List Event). private_replies view (own ++ events)) (answer-unless service.tables service.extensions view.database said (Asks said)))
+
+-- what a tenant sees once the database of another was put in its place
+other_statement-seen : (tenant : ℕ) (service : Service) (other : ℕ) (database : Option PrivateDatabase) → (tenant == other) ≡ false → view_of (put_database service other database) tenant ≡ view_of service tenant
+other_statement-seen tenant service other None apart = refl
+other_statement-seen tenant service other (Some database) apart = view_of-changed_other service other (with_database database) tenant apart
 
 statement-seen : (tenant : ℕ) (service : Service) (other : ℕ) (said : Said SimpleStmt) (events : List Event) (own : Bool) → (other == tenant) ≡ own → IsStatementSeen tenant service said events own other
 statement-seen tenant service other said events true e =
     subst (IsStatementSeen tenant service said events true) (sym (eqb-true other tenant e)) (own_statement-seen tenant service said events)
 statement-seen tenant service other said events false e =
-    ap (λ (view : View). private_replies view events) (view_of-put_other service other (next_database (view_of service other) said) tenant (nat_eq_equiv.symm tenant other ∙ e))
+    ap (λ (view : View). private_replies view events) (other_statement-seen tenant service other (next_database (view_of service other) said) (nat_eq_equiv.symm tenant other ∙ e))
 
 -- what a tenant sees once a table was made
-table-view : (tenant : ℕ) (service : Service) (name : List ℕ) (columns : List SimpleDef) → view_of (applied service (CreateTable name columns)) tenant ≡ applied_view (view_of service tenant) (CreateTable name columns)
-table-view tenant service name columns = ap (view_with (service.tables ++ table_of_defs name columns ∷ [])) (get-in_each with_table_in_each service.tenants tenant)
+table-view : (tenant : ℕ) (service : Service) (name : List ℕ) (columns : List Def) (key : List (List ℕ)) → view_of (applied service (CreateTable name columns key)) tenant ≡ applied_view (view_of service tenant) (CreateTable name columns key)
+table-view tenant service name columns key =
+    let table : Table = defined_table name columns key in
+    let seen : Option Tenant → View = λ kept. view_with (service.tables ++ table ∷ []) service.extensions (database_in kept) in
+    ap seen (get-in_each (with_new_table table) service.tenants tenant) ∙ by (finite.get service.tenants tenant)
+  where
+    by : (kept : Option Tenant) → view_with (service.tables ++ defined_table name columns key ∷ []) service.extensions (database_in (option_map (with_new_table (defined_table name columns key)) kept))
+        ≡ view_with (service.tables ++ defined_table name columns key ∷ []) service.extensions (option_map with_table (database_in kept))
+    by None = refl
+    by (Some kept) = refl
 
--- the new tenant is this one, or another
-tenant-seen : (tenant : ℕ) (service : Service) (other quota : ℕ) (events : List Event) (own : Bool) → (other == tenant) ≡ own →
-    private_replies (view_of (applied service (CreateTenant other quota)) tenant) events
-    ≡ private_replies (view_of service tenant) ((if own then Accepts (CreateTenant other quota) ∷ [] else []) ++ events)
-tenant-seen tenant service other quota events true e =
-    let database : PrivateDatabase = new_database service.tables quota in
-    subst (λ (new : ℕ). private_replies (view_of (applied service (CreateTenant new quota)) tenant) events ≡ private_replies (view_with service.tables (Some database)) events) (sym (eqb-true other tenant e))
-    (ap (λ (view : View). private_replies view events) (view_of-put_own service tenant database))
-tenant-seen tenant service other quota events false e =
-    ap (λ (view : View). private_replies view events) (view_of-put_other service other (Some (new_database service.tables quota)) tenant (nat_eq_equiv.symm tenant other ∙ e))
+-- what the new tenant sees
+new_tenant-view : (tenant : ℕ) (service : Service) (quota : ℕ) → view_of (applied service (CreateTenant tenant quota)) tenant ≡ applied_view (view_of service tenant) (CreateTenant tenant quota)
+new_tenant-view tenant service quota =
+    let made : Tenant = new_tenant service.tables quota in
+    view_of-put service tenant made tenant
+    ∙ ap (λ (here : Bool). view_with service.tables service.extensions (database_in (cond here (Some made) (finite.get service.tenants tenant)))) (eq-eqb tenant tenant refl)
+
+-- what a tenant sees once its table was extended
+extended-view : (tenant : ℕ) (service : Service) (name : List ℕ) → view_of (applied service (Extend tenant name)) tenant ≡ applied_view (view_of service tenant) (Extend tenant name)
+extended-view tenant service name = by (numbered_extension service.extensions name)
+  where
+    kept_by : (found : ℕ × Extension) (kept : Option Tenant) →
+        view_with service.tables service.extensions (database_in (option_map (extended_tenant found.0 found.1) kept)) ≡ view_with service.tables service.extensions (option_map (with_extension found.0 found.1) (database_in kept))
+    kept_by found None = refl
+    kept_by found (Some kept) = refl
+
+    by : (found : Option (ℕ × Extension)) →
+        view_of (elim found [ None ↦ service | Some found ↦ with_tenant service tenant (extended_tenant found.0 found.1) ]) tenant
+        ≡ (elim found [ None ↦ view_of service tenant | Some found ↦ view_with service.tables service.extensions (option_map (with_extension found.0 found.1) (view_of service tenant).database) ])
+    by None = refl
+    by (Some found) = view_of-changed_own service tenant (extended_tenant found.0 found.1) (finite.get service.tenants tenant) refl ∙ kept_by found (finite.get service.tenants tenant)
+
+-- what a tenant sees once its quota was set
+quota-view : (tenant : ℕ) (service : Service) (quota : ℕ) → view_of (applied service (SetQuota tenant quota)) tenant ≡ applied_view (view_of service tenant) (SetQuota tenant quota)
+quota-view tenant service quota = view_of-changed_own service tenant with_that (finite.get service.tenants tenant) refl ∙ by (finite.get service.tenants tenant)
+  where
+    with_that : Tenant → Tenant
+    with_that kept = with_database (with_quota quota kept.database) kept
+
+    by : (kept : Option Tenant) → view_with service.tables service.extensions (database_in (option_map with_that kept)) ≡ view_with service.tables service.extensions (option_map (with_quota quota) (database_in kept))
+    by None = refl
+    by (Some kept) = refl
+
+-- what another tenant sees once a tenant's table was extended
+other_extended-view : (tenant : ℕ) (service : Service) (other : ℕ) (name : List ℕ) → (tenant == other) ≡ false → view_of (applied service (Extend other name)) tenant ≡ view_of service tenant
+other_extended-view tenant service other name apart = by (numbered_extension service.extensions name)
+  where
+    by : (found : Option (ℕ × Extension)) → view_of (elim found [ None ↦ service | Some found ↦ with_tenant service other (extended_tenant found.0 found.1) ]) tenant ≡ view_of service tenant
+    by None = refl
+    by (Some found) = view_of-changed_other service other (extended_tenant found.0 found.1) tenant apart
+
+-- What a tenant sees after an accepted command: what is applied to its view, where the command bears on
+-- it, and else what it saw.
+abbrev IsAccepted : ℕ → Service → AdminCmd → Bool → Type 0
+IsAccepted tenant service command true = view_of (applied service command) tenant ≡ applied_view (view_of service tenant) command
+IsAccepted tenant service command false = view_of (applied service command) tenant ≡ view_of service tenant
+
+-- a command to one tenant, this or another
+to_tenant-accepted : (tenant : ℕ) (service : Service) (to : ℕ → AdminCmd) → view_of (applied service (to tenant)) tenant ≡ applied_view (view_of service tenant) (to tenant) →
+    ((other : ℕ) → (tenant == other) ≡ false → view_of (applied service (to other)) tenant ≡ view_of service tenant) → (other : ℕ) (own : Bool) → (other == tenant) ≡ own → IsAccepted tenant service (to other) own
+to_tenant-accepted tenant service to mine others other true e = subst (λ (n : ℕ). IsAccepted tenant service (to n) true) (sym (eqb-true other tenant e)) mine
+to_tenant-accepted tenant service to mine others other false e = others other (nat_eq_equiv.symm tenant other ∙ e)
+
+view-accepted : (tenant : ℕ) (service : Service) (command : AdminCmd) → IsAccepted tenant service command (bears_on tenant command)
+view-accepted tenant service (CreateTable name columns key) = table-view tenant service name columns key
+view-accepted tenant service (CreateExtension name base columns) = refl
+view-accepted tenant service (CreateTenant other quota) =
+    to_tenant-accepted tenant service (λ n. CreateTenant n quota) (new_tenant-view tenant service quota) (λ n apart. view_of-put_other service n (new_tenant service.tables quota) tenant apart) other (other == tenant) refl
+view-accepted tenant service (Extend other name) =
+    to_tenant-accepted tenant service (λ n. Extend n name) (extended-view tenant service name) (λ n apart. other_extended-view tenant service n name apart) other (other == tenant) refl
+view-accepted tenant service (SetQuota other quota) =
+    to_tenant-accepted tenant service (λ n. SetQuota n quota) (quota-view tenant service quota)
+    (λ n apart. view_of-changed_other service n (λ (kept : Tenant). with_database (with_quota quota kept.database) kept) tenant apart) other (other == tenant) refl
+view-accepted tenant service command = refl
 
 -- an accepted command
-accepted-seen : (tenant : ℕ) (service : Service) (command : SimpleCmd) → IsSeen tenant service (Command (Says command)) (Text (codes "ok\n")) (applied service command)
-accepted-seen tenant service (CreateTable name columns) events = ap (λ (view : View). private_replies view events) (table-view tenant service name columns)
-accepted-seen tenant service (CreateTenant other quota) events = tenant-seen tenant service other quota events (other == tenant) refl
+accepted-seen : (tenant : ℕ) (service : Service) (command : AdminCmd) → IsSeen tenant service (Command (Says command)) (Text (codes "ok\n")) (applied service command)
+accepted-seen tenant service command events = by (bears_on tenant command) (view-accepted tenant service command)
+  where
+    by : (bears : Bool) → IsAccepted tenant service command bears → private_replies (view_of (applied service command) tenant) events ≡ private_replies (view_of service tenant) ((if bears then Accepts command ∷ [] else []) ++ events)
+    by true seen = ap (λ (view : View). private_replies view events) seen
+    by false seen = ap (λ (view : View). private_replies view events) seen
 
 -- a refused command
-refused-seen : (tenant : ℕ) (service : Service) (command : SimpleCmd) (code : Code) → IsSeen tenant service (Command (Says command)) (Refused code) service
-refused-seen tenant service (CreateTable name columns) code events = refl
-refused-seen tenant service (CreateTenant other quota) code events =
-    elim (other == tenant) as (λ own. private_replies (view_of service tenant) events ≡ private_replies (view_of service tenant) ((if own then [] else []) ++ events)) [ true ↦ refl | false ↦ refl ]
+refused-seen : (tenant : ℕ) (service : Service) (command : AdminCmd) (code : Code) → IsSeen tenant service (Command (Says command)) (Refused code) service
+refused-seen tenant service command code events =
+    elim (bears_on tenant command) as (λ bears. private_replies (view_of service tenant) events ≡ private_replies (view_of service tenant) ((if bears then [] else []) ++ events)) [ true ↦ refl | false ↦ refl ]
 
 -- a command, whether it is refused or not
-command-seen : (tenant : ℕ) (service : Service) (command : SimpleCmd) (refusal : Option Code) →
+command-seen : (tenant : ℕ) (service : Service) (command : AdminCmd) (refusal : Option Code) →
     let stepped : Stepped = elim refusal [ None ↦ record { reply = Text (codes "ok\n"); next = applied service command } | Some code ↦ refused service code ] in
     IsSeen tenant service (Command (Says command)) stepped.reply stepped.next
 command-seen tenant service command None = accepted-seen tenant service command

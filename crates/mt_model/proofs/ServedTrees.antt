@@ -1,5 +1,5 @@
 -- The trees of what is served: two of them are told apart, and each tree is one of them or is none.
-use Rattle.std.proofs.Common.{◌≡◌, ◌⊎◌, inl, inr, ℕ, Bool, true, false, List, [], ◌∷◌, map, Option, Some, None, refl, ap}
+use Rattle.std.proofs.Common.{◌≡◌, ◌⊎◌, inl, inr, ℕ, Bool, true, false, List, [], ◌∷◌, map, Option, Some, None, refl, sym, ap, subst}
 use Rattle.mt_tree.specs.declared.name.ColName.{ColName}
 use Rattle.mt_tree.specs.declared.expression.Literal.{Literal}
 use Rattle.mt_tree.specs.declared.expression.Cond.{Cond}
@@ -13,16 +13,12 @@ use Rattle.mt_tree.specs.declared.statement.Select.{Select}
 use Rattle.mt_tree.specs.declared.statement.Insert.{Insert}
 use Rattle.mt_tree.specs.declared.statement.Stmt.{Stmt}
 use Rattle.mt_tree.specs.declared.statement.Stmt.TheVariants as stmt
-use Rattle.mt_tree.specs.declared.command.Def.{Def}
-use Rattle.mt_tree.specs.declared.command.DefKind.{DefKind}
 use Rattle.mt_tree.specs.declared.command.AdminCmd.{AdminCmd}
 use Rattle.mt_tree.specs.declared.command.AdminCmd.TheVariants as command
 use Rattle.mt_tree.specs.declared.simple.SimpleStmt.{SimpleStmt}
 use Rattle.mt_tree.specs.declared.simple.SimpleStmt.TheVariants as simple
-use Rattle.mt_tree.specs.declared.simple.SimpleCmd.{SimpleCmd}
-use Rattle.mt_tree.specs.declared.simple.SimpleCmd.TheVariants as simple_command
-use Rattle.mt_tree.specs.declared.simple.SimpleDef.{SimpleDef}
-use Rattle.mt_model.specs.Served.{bare_item, bare_ref, select_tree, insert_tree, statement_tree, plain_def, command_tree}
+use Rattle.mt_schema.specs.Steps.{IsSchemaStep}
+use Rattle.mt_model.specs.Served.{bare_item, bare_ref, select_tree, insert_tree, statement_tree}
 use Rattle.mt_model.specs.Said.{IsServed}
 
 -- different things have different trees
@@ -49,10 +45,6 @@ bare_item-injective x y e =
     let columns : column x ≡ column y = cc in
     ap (λ (column : ColName). column.name) columns
 
--- plain definitions of columns are told apart
-plain_def-injective : IsInjective plain_def
-plain_def-injective x y e = ap (λ (def : Def). let it : SimpleDef = record { name = def.name; kind = def.kind } in it) e
-
 -- statements that are served are told apart
 pub statement_tree-injective : IsInjective statement_tree
 statement_tree-injective (simple.Insert table values) (simple.Insert other others) e =
@@ -70,23 +62,20 @@ statement_tree-injective (simple.Select table columns) (simple.Select other othe
     let names : columns ≡ others = map-injective bare_item bare_item-injective columns others (ap (λ (select : Select). select.items) trees) in
     cc
 
--- commands that are served are told apart
-pub command_tree-injective : IsInjective command_tree
-command_tree-injective (simple_command.CreateTable name columns) (simple_command.CreateTable other others) e =
-    let names : name ≡ other = cc in
-    let trees : map plain_def columns ≡ map plain_def others = cc in
-    let defs : columns ≡ others = map-injective plain_def plain_def-injective columns others trees in
-    cc
-command_tree-injective (simple_command.CreateTable name columns) (simple_command.CreateTenant tenant quota) e = cc
-command_tree-injective (simple_command.CreateTenant tenant quota) (simple_command.CreateTable name columns) e = cc
-command_tree-injective (simple_command.CreateTenant tenant quota) (simple_command.CreateTenant other others) e = cc
+-- the tree is made of something
+abbrev pub IsMade : {A B : Type 0} → (B → A) → A → Type 0
+IsMade {A} {B} of a = (b : B) × (a ≡ of b)
+
+-- a tree is made of something, or of nothing
+abbrev pub IsDecided : {A B : Type 0} → (B → A) → A → Type 0
+IsDecided of a = IsMade of a ⊎ (IsMade of a → ⊥)
 
 -- a tree is of something that is served, or of nothing
-abbrev pub IsDecided : {A B : Type 0} → (B → A) → A → Type 0
-IsDecided of a = IsServed of a ⊎ (IsServed of a → ⊥)
+abbrev pub IsServedOrNot : {A B : Type 0} → (B → A) → (B → Type 0) → A → Type 0
+IsServedOrNot of served a = IsServed of served a ⊎ (IsServed of served a → ⊥)
 
 -- what makes a list makes its first member and the others
-cons-served : {A B : Type 0} (of : B → A) (a : A) (more : List A) (bs : List B) → a ∷ more ≡ map of bs → IsServed of a × IsServed (map of) more
+cons-served : {A B : Type 0} (of : B → A) (a : A) (more : List A) (bs : List B) → a ∷ more ≡ map of bs → IsMade of a × IsMade (map of) more
 cons-served of a more [] e = absurd (cc)
 cons-served of a more (b ∷ bs) e =
     let first : a ≡ of b = cc in
@@ -186,7 +175,7 @@ insert-decided table [] (values ∷ []) = inl ((table, values), refl)
 insert-decided table [] (values ∷ more ∷ others) = inr (λ s. let e : values ∷ more ∷ others ≡ s.0.1 ∷ [] = ap (λ (insert : Insert). insert.tuples) s.1 in cc)
 
 -- a statement is not served that is neither such an INSERT nor such a SELECT
-pub statement-unserved : (tree : Stmt) → ((s : List ℕ × List Literal) → tree ≡ stmt.Insert (insert_of s) → ⊥) → ((s : List ℕ × List (List ℕ)) → tree ≡ stmt.Select (select_of s) → ⊥) → IsServed statement_tree tree → ⊥
+pub statement-unserved : (tree : Stmt) → ((s : List ℕ × List Literal) → tree ≡ stmt.Insert (insert_of s) → ⊥) → ((s : List ℕ × List (List ℕ)) → tree ≡ stmt.Select (select_of s) → ⊥) → IsMade statement_tree tree → ⊥
 statement-unserved tree no_insert no_select s =
     (elim s.0 as (λ (x : SimpleStmt). tree ≡ statement_tree x → ⊥) [ simple.Insert table values ↦ no_insert (table, values) | simple.Select table columns ↦ no_select (table, columns) ]) s.1
 
@@ -206,25 +195,22 @@ statement-decided (stmt.Insert insert) = insert-served insert (insert-decided in
 statement-decided (stmt.Select select) = select-served select (select-decided select.distinct select.items select.refs select.cond select.group select.having select.order select.limit)
 statement-decided other = inr (statement-unserved other (λ s e. cc) (λ s e. cc))
 
--- a definition of a column is plain where it lacks NOT NULL
-def-decided : (name : List ℕ) (kind : DefKind) (not_null : Bool) → IsDecided plain_def (record { name = name; kind = kind; not_null = not_null })
-def-decided name kind false = inl (record { name = name; kind = kind }, refl)
-def-decided name kind true = inr (λ s. let e : true ≡ false = ap (λ (def : Def). def.not_null) s.1 in cc)
+-- a statement is served where it is made of one that is
+pub statement-served : (tree : Stmt) → IsServedOrNot statement_tree (λ statement. Unit {0}) tree
+statement-served tree = by (statement-decided tree)
+  where
+    by : IsDecided statement_tree tree → IsServedOrNot statement_tree (λ statement. Unit {0}) tree
+    by (inl s) = inl (s.0, s.1, tt)
+    by (inr none) = inr (λ s. none (s.0, s.1))
 
--- a command is not served that makes neither such a table nor a tenant
-pub command-unserved : (tree : AdminCmd) → ((name : List ℕ) (columns : List SimpleDef) → tree ≡ command.CreateTable name (map plain_def columns) [] → ⊥) → ((tenant quota : ℕ) → tree ≡ command.CreateTenant tenant quota → ⊥) → IsServed command_tree tree → ⊥
-command-unserved tree no_table no_tenant s =
-    (elim s.0 as (λ (x : SimpleCmd). tree ≡ command_tree x → ⊥) [ simple_command.CreateTable name columns ↦ no_table name columns | simple_command.CreateTenant tenant quota ↦ no_tenant tenant quota ]) s.1
+-- a command is served where it is a schema step
+pub command-unserved : (tree : AdminCmd) → (IsSchemaStep tree → ⊥) → IsServed (λ command. command) IsSchemaStep tree → ⊥
+command-unserved tree no_step s = no_step (subst IsSchemaStep (sym s.1) s.2)
 
--- a table without a key is served where its columns are plain
-table-decided : (name : List ℕ) (columns : List Def) (key : List (List ℕ)) → IsDecided (map plain_def) columns → IsDecided command_tree (command.CreateTable name columns key)
-table-decided name columns (column ∷ key) defs = inr (command-unserved (command.CreateTable name columns (column ∷ key)) (λ other others e. cc) (λ tenant quota e. cc))
-table-decided name columns [] (inl s) = inl (simple_command.CreateTable name s.0, ap (λ (defs : List Def). command.CreateTable name defs []) s.1)
-table-decided name columns [] (inr none) =
-    inr (command-unserved (command.CreateTable name columns []) (λ other others e. let same : columns ≡ map plain_def others = cc in none (others, same)) (λ tenant quota e. cc))
-
--- each command is served or is not
-pub command-decided : (tree : AdminCmd) → IsDecided command_tree tree
-command-decided (command.CreateTable name columns key) = table-decided name columns key (list-decided plain_def (λ def. def-decided def.name def.kind def.not_null) columns)
-command-decided (command.CreateTenant tenant quota) = inl (simple_command.CreateTenant tenant quota, refl)
-command-decided other = inr (command-unserved other (λ name columns e. cc) (λ tenant quota e. cc))
+pub command-served : (tree : AdminCmd) → IsServedOrNot (λ command. command) IsSchemaStep tree
+command-served (command.CreateTable name columns key) = inl (command.CreateTable name columns key, refl, tt)
+command-served (command.CreateExtension name base columns) = inl (command.CreateExtension name base columns, refl, tt)
+command-served (command.CreateTenant tenant quota) = inl (command.CreateTenant tenant quota, refl, tt)
+command-served (command.Extend tenant extension) = inl (command.Extend tenant extension, refl, tt)
+command-served (command.SetQuota tenant quota) = inl (command.SetQuota tenant quota, refl, tt)
+command-served other = inr (command-unserved other (λ step. step))

@@ -2,7 +2,7 @@
 use Rattle.std.proofs.Common.{◌≡◌, ℕ, Option, Some, None, List, refl, ap, ◌∙◌, ⊎_elim, codes}
 use Rattle.std.specs.FinMap as finite
 use Rattle.mt_tree.specs.declared.code.Code.{Code}
-use Rattle.mt_tree.specs.declared.simple.SimpleCmd.{SimpleCmd}
+use Rattle.mt_tree.specs.declared.command.AdminCmd.{AdminCmd}
 use Rattle.mt_tree.specs.declared.reply.Reply.TheVariants.{Text, Refused}
 use Rattle.mt_tree.specs.declared.simple.SimpleStmt.{SimpleStmt}
 use Rattle.mt_script.specs.Lines.{Line}
@@ -11,10 +11,10 @@ use Rattle.mt_model.specs.Answer.{answer, answer_said, next_said, next_database,
 use Rattle.mt_model.specs.Command.{command_refusal, applied}
 use Rattle.mt_model.specs.Database.{PrivateDatabase}
 use Rattle.mt_model.specs.Isolation.{service_rules}
-use Rattle.mt_model.specs.Laws.{view_with, put_database-there}
+use Rattle.mt_model.specs.Laws.{database_in, put_database-there, view_with}
 use Rattle.mt_model.specs.Request.{Request, Overlong, Unreadable, Statement, Command}
 use Rattle.mt_model.specs.Run.{Answers, IsStepped, IsForgone}
-use Rattle.mt_model.specs.Service.{Service, View, put_database}
+use Rattle.mt_model.specs.Service.{Service, Tenant, View, put_database}
 use Rattle.mt_model.specs.Step.{Stepped, step, refused}
 
 decided-kept : (refusal : Option Code) (text : List ℕ) (new old : PrivateDatabase) (code : Code) →
@@ -31,14 +31,16 @@ next_said-refused view database (Says statement) code e =
     decided-kept (first_refusal view database statement) (reply_text view database statement) (changed view database statement) database code e
 
 -- and so the service
-statement-refused : (service : Service) (tenant : ℕ) (said : Said SimpleStmt) (code : Code) (database : Option PrivateDatabase) → finite.get service.tenants tenant ≡ database →
-    Refused code ≡ answer (view_with service.tables database) said → put_database service tenant (next_database (view_with service.tables database) said) ≡ service
+statement-refused : (service : Service) (tenant : ℕ) (said : Said SimpleStmt) (code : Code) (kept : Option Tenant) → finite.get service.tenants tenant ≡ kept →
+    let view : View = view_with service.tables service.extensions (database_in kept) in
+    Refused code ≡ answer view said → put_database service tenant (next_database view said) ≡ service
 statement-refused service tenant said code None there e = refl
-statement-refused service tenant said code (Some database) there e =
-    ap (λ (next : PrivateDatabase). put_database service tenant (Some next)) (next_said-refused (view_with service.tables (Some database)) database said code e)
-    ∙ put_database-there service tenant database there
+statement-refused service tenant said code (Some kept) there e =
+    let view : View = view_with service.tables service.extensions (Some kept.database) in
+    ap (λ (next : PrivateDatabase). put_database service tenant (Some next)) (next_said-refused view kept.database said code e)
+    ∙ put_database-there service tenant kept there
 
-command-refused : (service : Service) (command : SimpleCmd) (code : Code) (refusal : Option Code) →
+command-refused : (service : Service) (command : AdminCmd) (code : Code) (refusal : Option Code) →
     let stepped : Stepped = elim refusal [ None ↦ record { reply = Text (codes "ok\n"); next = applied service command } | Some code ↦ refused service code ] in
     Refused code ≡ stepped.reply → stepped.next ≡ service
 command-refused service command code None e = cc

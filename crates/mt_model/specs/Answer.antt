@@ -6,37 +6,42 @@ use Rattle.mt_value.specs.declared.value.Value.TheVariants as value
 use Rattle.mt_value.specs.Printed.{value_text}
 use Rattle.mt_value.specs.Sorted.{in_row_order}
 use Rattle.mt_tree.specs.declared.code.Code.{Code}
-use Rattle.mt_tree.specs.declared.code.Code.TheVariants.{UnknownTenant, Syntax, NotServed, NumberOutside64Bits, UnknownTable, UnknownColumn, TypesDoNotFit, TextTooLong, QuotaFull, RowNumbersUsedUp}
+use Rattle.mt_tree.specs.declared.code.Code.TheVariants.{UnknownTenant, Syntax, NotServed, NumberOutside64Bits, UnknownTable, UnknownColumn, TypesDoNotFit, TextTooLong, NullNotAllowed, DuplicateKey, QuotaFull, RowNumbersUsedUp}
 use Rattle.mt_tree.specs.declared.reply.Reply.{Reply}
 use Rattle.mt_tree.specs.declared.reply.Reply.TheVariants.{Text, Refused}
 use Rattle.mt_tree.specs.declared.schema.Column.{Column}
-use Rattle.mt_tree.specs.declared.schema.Table.{Table}
 use Rattle.mt_tree.specs.declared.expression.Literal.{Literal}
 use Rattle.mt_tree.specs.declared.simple.SimpleStmt.{SimpleStmt}
 use Rattle.mt_tree.specs.declared.simple.SimpleStmt.TheVariants.{Insert, Select}
+use Rattle.mt_tree.specs.Rows.{has_duplicate_key, has_long_text, has_null}
+use Rattle.mt_catalog.specs.Found.{columns_among}
+use Rattle.mt_schema.specs.Refusals.{first_holding}
+use Rattle.mt_schema.specs.Steps.{table_number}
 use Rattle.mt_model.specs.Database.{TableContent, PrivateDatabase, no_rows, kept_rows, visible_rows, with_row}
-use Rattle.mt_model.specs.Tables.{table_number, column_place, column_names, value_of, fit_columns, are_short}
+use Rattle.mt_model.specs.Tables.{column_place, column_names, value_of, fit_columns}
 use Rattle.mt_model.specs.Said.{Said, Unread, Outside, Unserved, Says}
 use Rattle.mt_model.specs.Service.{View}
 
--- the first code whose test holds
-abbrev pub first_holding : List (Code × Bool) → Option Code
-first_holding [] = None
-first_holding ((code, holds) ∷ tests) = if holds then Some code else first_holding tests
-
--- the columns of a table by its number, and what it holds
-abbrev pub columns_of : List Table → ℕ → List Column
-columns_of tables number = (slice_index_or tables number (record { name = []; columns = [] })).columns
+-- the columns of the tenant's table of a base table: its own, and then those of the extensions
+abbrev pub columns_of : View → PrivateDatabase → ℕ → List Column
+columns_of view database number = columns_among view.tables view.extensions number (slice_index_or database.extended number [])
 
 -- what the table of that number holds
 abbrev pub content_of : PrivateDatabase → ℕ → TableContent
 content_of database number = slice_index_or database.current number no_rows
 
--- the tests of an INSERT of one row, in the order in which they are asked
+-- the table of that number with the row that literals write
+abbrev pub inserted : PrivateDatabase → ℕ → List Literal → TableContent
+inserted database number literals = with_row (content_of database number) (map value_of literals)
+
+-- The tests of an INSERT of one row, in the order in which they are asked: three of them look at all
+-- rows that the table would have.
 abbrev pub insert_tests : List Column → PrivateDatabase → ℕ → List Literal → List (Code × Bool)
 insert_tests columns database number literals =
     (TypesDoNotFit, not (fit_columns columns literals))
-    ∷ (TextTooLong, not (are_short columns literals))
+    ∷ (TextTooLong, has_long_text columns (inserted database number literals).rows)
+    ∷ (NullNotAllowed, has_null columns (inserted database number literals).rows)
+    ∷ (DuplicateKey, has_duplicate_key columns (inserted database number literals).rows)
     ∷ (QuotaFull, nat_lt database.quota (kept_rows database + 1))
     ∷ (RowNumbersUsedUp, nat_lt (2 ^ 63) ((content_of database number).made + 1)) ∷ []
 
@@ -46,8 +51,8 @@ select_tests columns names = (UnknownColumn, not (list_all (λ name. is_some (co
 
 -- the tests of a statement on the table of that number
 abbrev pub tests_at : View → PrivateDatabase → SimpleStmt → ℕ → List (Code × Bool)
-tests_at view database (Insert table values) number = insert_tests (columns_of view.tables number) database number values
-tests_at view database (Select table columns) number = select_tests (columns_of view.tables number) columns
+tests_at view database (Insert table values) number = insert_tests (columns_of view database number) database number values
+tests_at view database (Select table columns) number = select_tests (columns_of view database number) columns
 
 -- the table that a statement names
 abbrev pub table_of : SimpleStmt → List ℕ
@@ -80,7 +85,7 @@ projected places row = map (λ place. slice_index_or row place value.Null) place
 
 -- the rows that a SELECT prints, in the order printed
 abbrev pub selected : View → PrivateDatabase → ℕ → List (List ℕ) → List (List Value)
-selected view database number names = in_row_order (map (projected (places_of (columns_of view.tables number) names)) (visible_rows (content_of database number)))
+selected view database number names = in_row_order (map (projected (places_of (columns_of view database number) names)) (visible_rows (content_of database number)))
 
 -- a line of the values, with bars between
 abbrev pub row_line : List Value → List ℕ
@@ -99,13 +104,13 @@ abbrev pub reply_text : View → PrivateDatabase → SimpleStmt → List ℕ
 reply_text view database (Insert table values) = codes "ok 1\n"
 reply_text view database (Select table columns) =
     let number = number_of view (Select table columns) in
-    select_text (output_names (columns_of view.tables number) columns) (selected view database number columns)
+    select_text (output_names (columns_of view database number) columns) (selected view database number columns)
 
 -- the database after a statement that is not refused
 abbrev pub changed : View → PrivateDatabase → SimpleStmt → PrivateDatabase
 changed view database (Insert table values) =
     let number = number_of view (Insert table values) in
-    record database { current = slice_set database.current number (with_row (content_of database number) (map value_of values)) }
+    record database { current = slice_set database.current number (inserted database number values) }
 changed view database (Select table columns) = database
 
 -- the answer to a statement, for a tenant that is there

@@ -1,7 +1,7 @@
 -- What `run` serves so far: one command in one form. It knows no limit on the number of tenants.
 use Rattle.std.specs.Prelude.{◌≡◌, ℕ, ◌+◌, ◌^◌, ◌<◌, ◌≤◌, nat_lt, if◌then◌else◌, List, ◌++◌, codes, decimal}
 use Rattle.std.specs.FinMap as finite
-use Rattle.mt_tree.specs.declared.simple.SimpleCmd.TheVariants.{CreateTenant}
+use Rattle.mt_tree.specs.declared.command.AdminCmd.TheVariants.{CreateTenant}
 use Rattle.mt_tree.specs.declared.code.Code.TheVariants.{NameExists, QuotasTooLarge}
 use Rattle.mt_tree.specs.declared.reply.Reply.TheVariants.{Text}
 use Rattle.mt_script.specs.Lines as lines
@@ -9,7 +9,8 @@ use Rattle.mt_script.specs.Lines.{Line}
 use Rattle.mt_model.specs.Command.{applied}
 use Rattle.mt_model.specs.Said.{Unserved, Says}
 use Rattle.mt_model.specs.Request.{Request, Overlong, Command}
-use Rattle.mt_model.specs.Service.{Service, quota_total}
+use Rattle.mt_catalog.specs.Rules.{quota_total}
+use Rattle.mt_model.specs.Service.{Service, catalogue_of}
 use Rattle.mt_model.specs.Step.{Stepped, refused, step}
 use Rattle.mt_model.specs.Run.{Rules}
 
@@ -34,7 +35,7 @@ IsFirstPathRequest line request = ⊥
 abbrev pub first_path_step : Service → Request → Stepped
 first_path_step service (Command (Says (CreateTenant tenant quota))) =
     if finite.contains_key service.tenants tenant then refused service NameExists
-    else (if nat_lt 1048576 (quota_total service + quota) then refused service QuotasTooLarge
+    else (if nat_lt 1048576 (quota_total (catalogue_of service) + quota) then refused service QuotasTooLarge
     else record { reply = Text (codes "ok\n"); next = applied service (CreateTenant tenant quota) })
 first_path_step service request = step service request
 

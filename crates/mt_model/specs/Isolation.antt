@@ -1,10 +1,10 @@
 -- What one tenant sent and was answered in a run, and what a private database answers to that alone.
-use Rattle.std.specs.Prelude.{ℕ, ◌==◌, if◌then◌else◌, List, [], ◌∷◌, ◌++◌}
+use Rattle.std.specs.Prelude.{ℕ, ◌==◌, Bool, true, false, if◌then◌else◌, List, [], ◌∷◌, ◌++◌}
 use Rattle.mt_tree.specs.declared.reply.Reply.{Reply}
 use Rattle.mt_tree.specs.declared.reply.Reply.TheVariants.{Text, Refused, Memory}
 use Rattle.mt_tree.specs.declared.simple.SimpleStmt.{SimpleStmt}
-use Rattle.mt_tree.specs.declared.simple.SimpleCmd.{SimpleCmd}
-use Rattle.mt_tree.specs.declared.simple.SimpleCmd.TheVariants.{CreateTable, CreateTenant}
+use Rattle.mt_tree.specs.declared.command.AdminCmd.{AdminCmd}
+use Rattle.mt_tree.specs.declared.command.AdminCmd.TheVariants.{CreateTable, CreateExtension, CreateTenant, Extend, SetQuota}
 use Rattle.mt_model.specs.Answer.{answer, next_view}
 use Rattle.mt_model.specs.Command.{applied_view}
 use Rattle.mt_model.specs.Said.{Said, Unread, Outside, Unserved, Says}
@@ -22,7 +22,7 @@ pub data Event : Type 0 where
   -- a line of the tenant
   Asks : (said : Said SimpleStmt) → Event
   -- an accepted schema step
-  Accepts : (command : SimpleCmd) → Event
+  Accepts : (command : AdminCmd) → Event
 
 -- a line that is answered for want of memory counts as not sent
 abbrev pub unless_forgone : {A : Type 0} → Reply → A → List A
@@ -36,13 +36,21 @@ if_accepted (Text text) x = x ∷ []
 if_accepted Memory x = []
 if_accepted (Refused code) x = []
 
--- a new table bears on every tenant, a new tenant on itself
-abbrev pub command_events : ℕ → SimpleCmd → Reply → List Event
-command_events tenant (CreateTable name columns) reply = if_accepted reply (Accepts (CreateTable name columns))
-command_events tenant (CreateTenant other quota) reply = if other == tenant then if_accepted reply (Accepts (CreateTenant other quota)) else []
+-- whether a command bears on the tenant: base tables and extensions are everybody's
+abbrev pub bears_on : ℕ → AdminCmd → Bool
+bears_on tenant (CreateTable name columns key) = true
+bears_on tenant (CreateExtension name base columns) = true
+bears_on tenant (CreateTenant other quota) = other == tenant
+bears_on tenant (Extend other extension) = other == tenant
+bears_on tenant (SetQuota other quota) = other == tenant
+bears_on tenant command = false
+
+-- an accepted command reaches the tenants on which it bears
+abbrev pub command_events : ℕ → AdminCmd → Reply → List Event
+command_events tenant command reply = if bears_on tenant command then if_accepted reply (Accepts command) else []
 
 -- what a command of the administrator is to the tenant
-abbrev pub said_events : ℕ → Said SimpleCmd → Reply → List Event
+abbrev pub said_events : ℕ → Said AdminCmd → Reply → List Event
 said_events tenant Unread reply = []
 said_events tenant Outside reply = []
 said_events tenant Unserved reply = []

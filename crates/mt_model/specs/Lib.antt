@@ -4,6 +4,7 @@ pub mod Database
 pub mod FirstPath
 pub mod Isolation
 pub mod Laws
+pub mod Parts
 pub mod Prints
 pub mod Request
 pub mod Run

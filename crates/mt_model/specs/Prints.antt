@@ -1,5 +1,5 @@
 -- Each reply prints something.
-use Rattle.std.specs.Prelude.{◌≡◌, ◌≢◌, ◌++◌, ◌+◌, ℕ, Bool, true, false, nat_lt, if◌then◌else◌, List, [], ◌∷◌, Option, Some, None, codes}
+use Rattle.std.specs.Prelude.{◌+◌, ℕ, Bool, true, false, nat_lt, if◌then◌else◌, List, [], ◌∷◌, Option, Some, None, codes}
 use Rattle.std.proofs.Common.{subst}
 use Rattle.std.specs.FinMap as finite
 use Rattle.mt_tree.specs.declared.code.Code.{Code}
@@ -9,19 +9,21 @@ use Rattle.mt_tree.specs.declared.reply.Reply.TheVariants.{Text, Refused}
 use Rattle.mt_tree.specs.declared.schema.Table.{Table}
 use Rattle.mt_tree.specs.declared.simple.SimpleStmt.{SimpleStmt}
 use Rattle.mt_tree.specs.declared.simple.SimpleStmt.TheVariants.{Insert, Select}
-use Rattle.mt_tree.specs.declared.simple.SimpleCmd.{SimpleCmd}
-use Rattle.mt_tree.specs.declared.simple.SimpleCmd.TheVariants.{CreateTable, CreateTenant}
+use Rattle.mt_tree.specs.declared.command.AdminCmd.{AdminCmd}
+use Rattle.mt_tree.specs.declared.command.AdminCmd.TheVariants.{CreateTenant}
 use Rattle.mt_tree.specs.Replies.{refusal_text, reply_bytes}
-use Rattle.mt_model.specs.Answer.{answer, answer_said, answer_within, first_refusal, reply_text}
+use Rattle.mt_catalog.specs.declared.state.Extension.{Extension}
+use Rattle.mt_catalog.specs.Rules.{quota_total}
+use Rattle.mt_model.specs.Answer.{answer, answer_said, first_refusal, reply_text}
 use Rattle.mt_model.specs.Command.{command_refusal, applied}
 use Rattle.mt_model.specs.Database.{PrivateDatabase}
 use Rattle.mt_model.specs.FirstPath.{first_path, first_path_step}
 use Rattle.mt_model.specs.Isolation.{service_rules}
-use Rattle.mt_model.specs.Laws.{EachStepPrints}
+use Rattle.mt_model.specs.Laws.{EachStepPrints, view_with}
 use Rattle.mt_model.specs.Request as request
 use Rattle.mt_model.specs.Said.{Said, Unread, Outside, Unserved, Says}
-use Rattle.mt_model.specs.Service.{Service, View, quota_total}
-use Rattle.mt_model.specs.Step.{Stepped, refused, step, command_said, command_step}
+use Rattle.mt_model.specs.Service.{Service, View, catalogue_of, view_of}
+use Rattle.mt_model.specs.Step.{Stepped, refused, step, command_said}
 
 -- there is a byte
 abbrev pub HasByte : List ℕ → Type 0
@@ -80,16 +82,16 @@ said_prints view database Outside = refusal_prints NumberOutside64Bits
 said_prints view database Unserved = refusal_prints NotServed
 said_prints view database (Says statement) = decided_prints (first_refusal view database statement) (reply_text view database statement) (text_prints view database statement)
 
-answer_prints : (tables : List Table) (database : Option PrivateDatabase) (said : Said SimpleStmt) → Prints (answer (record { tables = tables; database = database }) said)
-answer_prints tables None said = refusal_prints UnknownTenant
-answer_prints tables (Some database) said = said_prints (record { tables = tables; database = Some database }) database said
+answer_prints : (tables : List Table) (extensions : List Extension) (database : Option PrivateDatabase) (said : Said SimpleStmt) → Prints (answer (view_with tables extensions database) said)
+answer_prints tables extensions None said = refusal_prints UnknownTenant
+answer_prints tables extensions (Some database) said = said_prints (view_with tables extensions (Some database)) database said
 
 -- a command is refused with this code, or done
-command_prints : (service : Service) (command : SimpleCmd) (refusal : Option Code) → Prints ((elim refusal as (λ _. Stepped) [ None ↦ record { reply = Text (codes "ok\n"); next = applied service command } | Some code ↦ refused service code ]).reply)
+command_prints : (service : Service) (command : AdminCmd) (refusal : Option Code) → Prints ((elim refusal as (λ _. Stepped) [ None ↦ record { reply = Text (codes "ok\n"); next = applied service command } | Some code ↦ refused service code ]).reply)
 command_prints service command None = tt
 command_prints service command (Some code) = refusal_prints code
 
-command_said_prints : (service : Service) (said : Said SimpleCmd) → Prints ((command_said service said).reply)
+command_said_prints : (service : Service) (said : Said AdminCmd) → Prints ((command_said service said).reply)
 command_said_prints service Unread = refusal_prints Syntax
 command_said_prints service Outside = refusal_prints NumberOutside64Bits
 command_said_prints service Unserved = refusal_prints NotServed
@@ -98,7 +100,7 @@ command_said_prints service (Says command) = command_prints service command (com
 step_prints : (service : Service) (asked : request.Request) → Prints ((step service asked).reply)
 step_prints service request.Overlong = refusal_prints LineTooLong
 step_prints service request.Unreadable = refusal_prints LineNotReadable
-step_prints service (request.Statement tenant said) = answer_prints service.tables (finite.get service.tenants tenant) said
+step_prints service (request.Statement tenant said) = answer_prints service.tables service.extensions (view_of service tenant).database said
 step_prints service (request.Command said) = command_said_prints service said
 
 -- the tests of the first path, one behind the other
@@ -110,14 +112,8 @@ made_prints service tenant quota false false = tt
 
 first_path_step_prints : (service : Service) (asked : request.Request) → Prints ((first_path_step service asked).reply)
 first_path_step_prints service (request.Command (Says (CreateTenant tenant quota))) =
-    made_prints service tenant quota (finite.contains_key service.tenants tenant) (nat_lt 1048576 (quota_total service + quota))
-first_path_step_prints service (request.Command (Says (CreateTable name columns))) = step_prints service (request.Command (Says (CreateTable name columns)))
-first_path_step_prints service (request.Command Unread) = step_prints service (request.Command Unread)
-first_path_step_prints service (request.Command Outside) = step_prints service (request.Command Outside)
-first_path_step_prints service (request.Command Unserved) = step_prints service (request.Command Unserved)
-first_path_step_prints service request.Overlong = step_prints service request.Overlong
-first_path_step_prints service request.Unreadable = step_prints service request.Unreadable
-first_path_step_prints service (request.Statement tenant said) = step_prints service (request.Statement tenant said)
+    made_prints service tenant quota (finite.contains_key service.tenants tenant) (nat_lt 1048576 (quota_total (catalogue_of service) + quota))
+first_path_step_prints service asked = step_prints service asked
 
 -- so each reply of the service does
 pub service_prints : EachStepPrints service_rules

@@ -3,7 +3,7 @@ use Rattle.std.specs.Prelude.{ℕ, List}
 use Rattle.mt_tree.specs.declared.who.Who.{Who}
 use Rattle.mt_tree.specs.declared.who.Who.TheVariants.{Admin, Tenant}
 use Rattle.mt_tree.specs.declared.simple.SimpleStmt.{SimpleStmt}
-use Rattle.mt_tree.specs.declared.simple.SimpleCmd.{SimpleCmd}
+use Rattle.mt_tree.specs.declared.command.AdminCmd.{AdminCmd}
 use Rattle.mt_script.specs.Lines as lines
 use Rattle.mt_script.specs.Lines.{Line}
 use Rattle.mt_script.specs.Tags.{HasTag}
@@ -15,7 +15,7 @@ pub data Request : Type 0 where
   -- the line is not UTF-8, or has no tag
   Unreadable : Request
   Statement : (tenant : ℕ) (said : Said SimpleStmt) → Request
-  Command : (said : Said SimpleCmd) → Request
+  Command : (said : Said AdminCmd) → Request
 
 -- the line has the tag, and the text behind it says this
 pub record IsSent (bytes : List ℕ) (who : Who) (says_it : List ℕ → Type 0) : Type 0 where

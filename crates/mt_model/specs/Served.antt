@@ -1,4 +1,4 @@
--- The statements and commands that are served so far, as the trees that are read.
+-- The statements that are served so far, as the trees that are read.
 use Rattle.std.specs.Prelude.{ℕ, false, List, [], ◌∷◌, map, None}
 use Rattle.mt_tree.specs.declared.expression.Literal.{Literal}
 use Rattle.mt_tree.specs.declared.expression.Atom.TheVariants as atom
@@ -9,14 +9,8 @@ use Rattle.mt_tree.specs.declared.statement.Select.{Select}
 use Rattle.mt_tree.specs.declared.statement.Insert.{Insert}
 use Rattle.mt_tree.specs.declared.statement.Stmt.{Stmt}
 use Rattle.mt_tree.specs.declared.statement.Stmt.TheVariants as stmt
-use Rattle.mt_tree.specs.declared.command.Def.{Def}
-use Rattle.mt_tree.specs.declared.command.AdminCmd.{AdminCmd}
-use Rattle.mt_tree.specs.declared.command.AdminCmd.TheVariants as command
 use Rattle.mt_tree.specs.declared.simple.SimpleStmt.{SimpleStmt}
 use Rattle.mt_tree.specs.declared.simple.SimpleStmt.TheVariants as simple
-use Rattle.mt_tree.specs.declared.simple.SimpleCmd.{SimpleCmd}
-use Rattle.mt_tree.specs.declared.simple.SimpleCmd.TheVariants as simple_command
-use Rattle.mt_tree.specs.declared.simple.SimpleDef.{SimpleDef}
 
 -- a column by its name alone, without AS
 abbrev pub bare_item : List ℕ → Item
@@ -47,12 +41,3 @@ insert_tree table values = record { table = table; columns = []; tuples = values
 abbrev pub statement_tree : SimpleStmt → Stmt
 statement_tree (simple.Insert table values) = stmt.Insert (insert_tree table values)
 statement_tree (simple.Select table columns) = stmt.Select (select_tree table columns)
-
--- a column and its kind, without NOT NULL
-abbrev pub plain_def : SimpleDef → Def
-plain_def def = record { name = def.name; kind = def.kind; not_null = false }
-
--- a command that is served, as it is read; a table has no key
-abbrev pub command_tree : SimpleCmd → AdminCmd
-command_tree (simple_command.CreateTable name columns) = command.CreateTable name (map plain_def columns) []
-command_tree (simple_command.CreateTenant tenant quota) = command.CreateTenant tenant quota

@@ -1,6 +1,6 @@
 -- What one request does to the service, and what it is answered.
 use Rattle.std.specs.Prelude.{Some, None, codes}
-use Rattle.mt_tree.specs.declared.simple.SimpleCmd.{SimpleCmd}
+use Rattle.mt_tree.specs.declared.command.AdminCmd.{AdminCmd}
 use Rattle.mt_tree.specs.declared.code.Code.{Code}
 use Rattle.mt_tree.specs.declared.code.Code.TheVariants as code
 use Rattle.mt_tree.specs.declared.reply.Reply.{Reply}
@@ -21,7 +21,7 @@ abbrev pub refused : Service → Code → Stepped
 refused service code = record { reply = Refused code; next = service }
 
 -- the command is refused, or done and answered `ok`
-abbrev pub command_step : Service → SimpleCmd → Stepped
+abbrev pub command_step : Service → AdminCmd → Stepped
 command_step service command =
     elim (command_refusal service command) [
       | None ↦ record { reply = Text (codes "ok\n"); next = applied service command }
@@ -29,7 +29,7 @@ command_step service command =
     ]
 
 -- the step of what the administrator's line says
-abbrev pub command_said : Service → Said SimpleCmd → Stepped
+abbrev pub command_said : Service → Said AdminCmd → Stepped
 command_said service Unread = refused service code.Syntax
 command_said service Outside = refused service code.NumberOutside64Bits
 command_said service Unserved = refused service code.NotServed

@@ -1,18 +1,22 @@
-ghost use Rattle.std.specs.Prelude.{◌≡◌, ◌↔◌, ℕ, List};
+ghost use Rattle.std.specs.Prelude.{◌≡◌, ◌↔◌, ℕ, List, None};
 ghost use Rattle.mt_tree.specs.declared.code.Code.{Code};
 ghost use Rattle.mt_tree.specs.declared.code.Code.TheVariants as code;
+ghost use Rattle.mt_tree.specs.declared.command.AdminCmd.{AdminCmd};
 ghost use Rattle.mt_tree.specs.declared.reply.Reply.{Reply};
 ghost use Rattle.mt_tree.specs.declared.reply.Reply.TheVariants.{Refused, Memory};
 ghost use Rattle.mt_tree.specs.declared.simple.SimpleStmt.{SimpleStmt};
-ghost use Rattle.mt_tree.specs.declared.simple.SimpleCmd.{SimpleCmd};
 ghost use Rattle.mt_script.specs.Lines.{Line};
+ghost use Rattle.mt_reader.specs.Reading.{ReadsAs};
+ghost use Rattle.mt_adminlang.specs.Command.{SpellsCommand};
+ghost use Rattle.mt_schema.specs.Steps.{IsSchemaStep, IsWellFormed, stepped};
+ghost use Rattle.mt_model.specs.Command.{applied, command_refusal};
 ghost use Rattle.mt_model.specs.FirstPath.{first_path};
 ghost use Rattle.mt_model.specs.Isolation.{service_rules, own_events, replies_to, private_replies};
 ghost use Rattle.mt_model.specs.Laws.{EachStepPrints};
 ghost use Rattle.mt_model.specs.Request.{Request, Overlong, Unreadable, IsRequest};
 ghost use Rattle.mt_model.specs.Run.{Answers, IsRun};
 ghost use Rattle.mt_model.specs.Said.{Said, IsStatementSaid, IsCommandSaid};
-ghost use Rattle.mt_model.specs.Service.{Service, view_of};
+ghost use Rattle.mt_model.specs.Service.{IsInStep, Service, catalogue_of, view_of};
 
 use mt_adminlang::{commands_are_determined, each_command_text_gives_something};
 use mt_grammar::{each_statement_text_gives_something, statements_are_determined};
@@ -28,7 +32,7 @@ pub fn each_line_says_one_thing()
 /// Each text says something to a tenant's database, and to the service as a command.
 pub fn each_text_says_something()
     ensures statement { (text : List ℕ) → (said : Said SimpleStmt) × IsStatementSaid text said }
-    ensures command { (text : List ℕ) → (said : Said SimpleCmd) × IsCommandSaid text said }
+    ensures command { (text : List ℕ) → (said : Said AdminCmd) × IsCommandSaid text said }
 {
     each_statement_text_gives_something();
     each_command_text_gives_something();
@@ -76,4 +80,16 @@ pub fn two_worlds()
         → view_of first tenant ≡ view_of other_first tenant
         → own_events tenant requests replies ≡ own_events tenant other_requests other_replies
         → replies_to tenant requests replies ≡ replies_to tenant other_requests other_replies }
+{}
+
+/// A schema step that is read is well formed: what it makes has names.
+pub fn read_commands_are_well_formed()
+    ensures { (text : List ℕ) (command : AdminCmd) → ReadsAs SpellsCommand text command → IsSchemaStep command → IsWellFormed command }
+{}
+
+/// An accepted schema step makes of the service's catalogue what it makes of a catalogue alone, and what
+/// is kept of each tenant stays in step with the base tables.
+pub fn schema_steps_are_the_catalogues()
+    ensures catalogue { (service : Service) (command : AdminCmd) → IsInStep service → command_refusal service command ≡ None → catalogue_of (applied service command) ≡ stepped (catalogue_of service) command }
+    ensures in_step { (service : Service) (command : AdminCmd) → IsInStep service → IsInStep (applied service command) }
 {}

@@ -8,7 +8,8 @@ ghost use Rattle.mt_schema.specs.Steps.{IsWellFormed};
 
 use crate::tests::Line::{Extend, Extension, Quota, Table, Tenant};
 use crate::{StepFault, accept, prepare};
-use mt_catalog::{CatBodies, Catalog, read_catalog};
+use mt_catalog::{CatBodies, Catalog};
+use mt_catread::read_catalog;
 use mt_lexer::is_name;
 use mt_list::List;
 use mt_rowfile::{CatBody, Head, Layout, check_slot, slot_width};
