@@ -37,6 +37,7 @@ abbrev pub relation_found : Option CatSlot → Option (ℕ × List ℕ)
 relation_found (Some (slots.Relation class number base name)) = Some (base, name)
 relation_found slot = None
 
+-- the column, as its slot says it
 abbrev pub column_found : Option CatSlot → Option Column
 column_found (Some (slots.Column class number position kind not_null key name)) = Some (record { name = name; kind = kind; not_null = not_null; key = key })
 column_found slot = None
@@ -91,10 +92,11 @@ pub record IsFoundExtension (found : Found) (number : ℕ) (extension : Extensio
   pub named : relation_found (found (keys.Relation classes.Extension number)) ≡ Some (extension.base, extension.name)
   pub columns : AreFoundColumns found classes.Extension number extension.columns
 
--- the base tables, and the extensions
+-- the base tables at the numbers from 0 on, up to the first at which none is found
 abbrev pub AreFoundBases : Found → List Table → Type 0
 AreFoundBases found bases = IsRun (IsFoundBase found) (λ number. relation_found (found (keys.Relation classes.BaseTable number)) ≡ None) bases
 
+-- the extensions at the numbers from 0 on, up to the first at which none is found
 abbrev pub AreFoundExtensions : Found → List Extension → Type 0
 AreFoundExtensions found extensions = IsRun (IsFoundExtension found) (λ number. relation_found (found (keys.Relation classes.Extension number)) ≡ None) extensions
 

@@ -1,6 +1,5 @@
 pub mod Clauses
 pub mod Coded
-pub mod Entries
 pub mod Found
 pub mod Keyed
 pub mod Reading

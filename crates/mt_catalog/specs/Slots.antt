@@ -41,10 +41,11 @@ fold_of (placements.Settled generation fold) wanted = if nat_eq wanted generatio
 fold_of (placements.Moving generation before after frontier upto) wanted =
     if nat_eq wanted generation then Some before else (if nat_eq wanted (1 - generation) then Some after else None)
 
--- the slot of a column at its place; a column in the conventional row has none
+-- the slot of a column in a field of a chunk of this shape; a chunk that is not there has none
 abbrev pub shaped_slot : ℕ → ℕ → ℕ → ℕ → ℕ → ℕ → Option Shape → Option CatSlot
 shaped_slot tenant base generation column chunk field shape = option_map (λ shape. slots.Field tenant base generation column shape chunk field) shape
 
+-- the slot of a column at its place; a column in the conventional row has none
 abbrev pub placed_slot : ℕ → ℕ → ℕ → ℕ → Fold → Option Place → Option CatSlot
 placed_slot tenant base generation column fold None = None
 placed_slot tenant base generation column fold (Some Conv) = None
@@ -55,14 +56,16 @@ abbrev pub column_in_fold : ℕ → ℕ → ℕ → ℕ → Option Fold → Opti
 column_in_fold tenant base generation column None = None
 column_in_fold tenant base generation column (Some fold) = placed_slot tenant base generation column fold (slice_get fold.places column)
 
--- the slots of a tenant's table
+-- the slot of how many rows of a tenant's table were made, and how they lie
 abbrev pub placement_slot : ℕ → ℕ → Option TenantTable → Option CatSlot
 placement_slot tenant base table = option_map (λ table. slots.Placement tenant base table.made (motion_of table.placement)) table
 
+-- the slot of the extension at a position of a tenant's table, if there is one
 abbrev pub extended_slot : ℕ → ℕ → ℕ → Option TenantTable → Option CatSlot
 extended_slot tenant base position None = None
 extended_slot tenant base position (Some table) = option_map (λ extension. slots.Extended tenant base position extension) (slice_get table.extended position)
 
+-- the slot of a column of a tenant's table in the fold of a generation, if it lies in a field there
 abbrev pub field_slot : ℕ → ℕ → ℕ → ℕ → Option TenantTable → Option CatSlot
 field_slot tenant base generation column None = None
 field_slot tenant base generation column (Some table) = column_in_fold tenant base generation column (fold_of table.placement generation)

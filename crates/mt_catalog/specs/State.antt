@@ -9,6 +9,7 @@ use Rattle.mt_catalog.specs.declared.state.Extension.{Extension}
 use Rattle.mt_catalog.specs.declared.state.TenantEntry.{TenantEntry}
 use Rattle.mt_catalog.specs.declared.state.TenantTable.{TenantTable}
 
+-- Base tables and extensions at their numbers from 0 on, and what is kept of each tenant by its number.
 pub record State : Type 0 where
   -- the base tables, each with its own columns alone
   pub bases : List Table

@@ -1,7 +1,11 @@
 use mt_fold::Placement;
 use mt_list::List;
+use mt_rowfile::CatBody;
 use mt_tree::Columns;
 use mt_value::Str;
+
+/// The bodies of slots of the catalogue, each with its table from 8 to 13.
+pub type CatBodies = List<(u32, CatBody)>;
 
 /// Numbers of extensions, in the order of EXTEND.
 pub type Numbers = List<u32>;

@@ -90,9 +90,11 @@ empty_holds = record {
   bases_fit = λ page from upto. absurd (omega (arith, from, upto));
   rows = record {
     once = tt;
-    owned = λ key there. absurd (none_true (finite.contains_key (content_of empty_state blank) key) (no_row key) there);
-    tables = λ tenant base table e. let none : Some table ≡ None = sym e ∙ ap (table_in base) (no_tenant tenant) in absurd (cc);
-    quotas = λ tenant entry e. let none : Some entry ≡ None = sym e ∙ no_tenant tenant in absurd (cc);
+    rows = record {
+      owned = λ key there. absurd (none_true (finite.contains_key (content_of empty_state blank) key) (no_row key) there);
+      tables = λ tenant base table e. let none : Some table ≡ None = sym e ∙ ap (table_in base) (no_tenant tenant) in absurd (cc);
+      quotas = λ tenant entry e. let none : Some entry ≡ None = sym e ∙ no_tenant tenant in absurd (cc);
+    };
   };
 }
 

@@ -50,11 +50,15 @@ kept_rows content tenant bases = sum_by (λ base. length (slots_of content (anch
 abbrev pub content_of : State → Area → Content
 content_of state pages = rows_of (known_of state) pages
 
--- The rules of rows. No two slots in use of one table have one key; each is of a table that a tenant
--- has; the slots of each table keep its rules; and no tenant has more rows than the quota.
+-- The rules of rows, of what the slots in use say by their keys. Each is of a table that a tenant has;
+-- the slots of each table keep its rules; and no tenant has more rows than the quota.
+pub record AreRowsOf (state : State) (content : Content) : Type 0 where
+  pub owned : (key : Key) → finite.contains_key content key ≡ true → IsSome (tenant_table state key.tenant (base_of key))
+  pub tables : (tenant base : ℕ) (table : TenantTable) → tenant_table state tenant base ≡ Some table
+      → KeepsRules content (kept_of tenant base table) (extended_columns state base table.extended) (length (base_columns (slice_get state.bases base))) table.made
+  pub quotas : (tenant : ℕ) (entry : TenantEntry) → finite.get state.tenants tenant ≡ Some entry → kept_rows content tenant (length state.bases) ≤ entry.quota
+
+-- The slots of the pages keep the rules of rows, and no two in use of one table have one key.
 pub record KeepRowRules (state : State) (pages : Area) : Type 0 where
   pub once : AreUnique key_cmp (row_in (known_of state)) (slots_below (sizes_of (known_of state)) (page_count pages) pages)
-  pub owned : (key : Key) → finite.contains_key (content_of state pages) key ≡ true → IsSome (tenant_table state key.tenant (base_of key))
-  pub tables : (tenant base : ℕ) (table : TenantTable) → tenant_table state tenant base ≡ Some table
-      → KeepsRules (content_of state pages) (kept_of tenant base table) (extended_columns state base table.extended) (length (base_columns (slice_get state.bases base))) table.made
-  pub quotas : (tenant : ℕ) (entry : TenantEntry) → finite.get state.tenants tenant ≡ Some entry → kept_rows (content_of state pages) tenant (length state.bases) ≤ entry.quota
+  pub rows : AreRowsOf state (content_of state pages)

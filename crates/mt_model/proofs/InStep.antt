@@ -58,7 +58,7 @@ put-in_step service at kept each in_step number tenant there = by (number == at)
     by false other = in_step number tenant other
 
 -- once a tenant was changed so that it stays in step
-changed-in_step : (service : Service) (tenant : ℕ) (change : Tenant → Tenant) → ((kept : Tenant) → HasEach (length service.tables) kept → HasEach (length service.tables) (change kept)) → IsInStep service → IsInStep (with_tenant service tenant change)
+pub changed-in_step : (service : Service) (tenant : ℕ) (change : Tenant → Tenant) → ((kept : Tenant) → HasEach (length service.tables) kept → HasEach (length service.tables) (change kept)) → IsInStep service → IsInStep (with_tenant service tenant change)
 changed-in_step service tenant change stays in_step =
     subst IsInStep (sym (with_tenant-kept service tenant change (finite.get service.tenants tenant) refl)) (by (finite.get service.tenants tenant) refl)
   where

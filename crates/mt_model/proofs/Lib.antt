@@ -7,3 +7,8 @@ pub mod InStep
 pub mod Stepped
 pub mod WellFormed
 pub mod Examples
+pub mod PartsTold
+pub mod Widened
+pub mod PartsChanged
+pub mod PartsStepped
+pub mod PartsInserted

@@ -26,7 +26,7 @@ abbrev state_with : List Table → List Extension → finite.FinMap nat_cmp Tena
 state_with bases extensions tenants = record { bases = bases; extensions = extensions; tenants = tenants }
 
 -- a tenant's table with what it holds, its extensions and its placement
-abbrev table_with : TableContent → List ℕ → Placement → TenantTable
+abbrev pub table_with : TableContent → List ℕ → Placement → TenantTable
 table_with content numbers placement = record { made = content.made; extended = numbers; placement = placement }
 
 -- the tables of a tenant with one table more
@@ -46,19 +46,21 @@ tables-new [] = refl
 tables-new (table ∷ tables) = ap (λ (others : List TenantTable). new_table table ∷ others) (tables-new tables)
 
 -- tables of which that of a number is changed, where it is there
-abbrev tables_with : ℕ → (TenantTable → TenantTable) → List TenantTable → Option TenantTable → List TenantTable
+abbrev pub tables_with : ℕ → (TenantTable → TenantTable) → List TenantTable → Option TenantTable → List TenantTable
 tables_with base change tables None = tables
 tables_with base change tables (Some table) = slice_set tables base (change table)
 
-tables_with-behind : (base : ℕ) (change : TenantTable → TenantTable) (first : TenantTable) (tables : List TenantTable) (found : Option TenantTable) → tables_with (suc base) change (first ∷ tables) found ≡ first ∷ tables_with base change tables found
+-- the first table stays where another is changed
+pub tables_with-behind : (base : ℕ) (change : TenantTable → TenantTable) (first : TenantTable) (tables : List TenantTable) (found : Option TenantTable) → tables_with (suc base) change (first ∷ tables) found ≡ first ∷ tables_with base change tables found
 tables_with-behind base change first tables None = refl
 tables_with-behind base change first tables (Some table) = refl
 
 -- a tenant of this quota and these tables
-abbrev tenant_with : ℕ → List TenantTable → TenantEntry
+abbrev pub tenant_with : ℕ → List TenantTable → TenantEntry
 tenant_with quota tables = record { quota = quota; tables = tables }
 
-entry_with : (base : ℕ) (change : TenantTable → TenantTable) (quota : ℕ) (tables : List TenantTable) → steps.with_table base change (tenant_with quota tables) ≡ tenant_with quota (tables_with base change tables (slice_get tables base))
+-- a tenant whose table is changed is the same tenant with such tables
+pub entry_with : (base : ℕ) (change : TenantTable → TenantTable) (quota : ℕ) (tables : List TenantTable) → steps.with_table base change (tenant_with quota tables) ≡ tenant_with quota (tables_with base change tables (slice_get tables base))
 entry_with base change quota tables = by (slice_get tables base)
   where
     by : (found : Option TenantTable) → (elim found [ None ↦ tenant_with quota tables | Some table ↦ tenant_with quota (slice_set tables base (change table)) ]) ≡ tenant_with quota (tables_with base change tables found)
@@ -129,11 +131,11 @@ entries-table service table in_step = finite.same_map nat_cmp_total finite.nat_c
         ∙ sym (get-in_each (steps.with_new_table table) (in_each entry_of service.tenants) number)
 
 -- the catalogue in which a tenant is changed, where this is kept of it
-abbrev entry_where : State → ℕ → (TenantEntry → TenantEntry) → Option TenantEntry → State
+abbrev pub entry_where : State → ℕ → (TenantEntry → TenantEntry) → Option TenantEntry → State
 entry_where state tenant change None = state
 entry_where state tenant change (Some entry) = state_with state.bases state.extensions (finite.insert state.tenants tenant (change entry))
 
-entry-kept : (state : State) (tenant : ℕ) (change : TenantEntry → TenantEntry) (entry : Option TenantEntry) → finite.get state.tenants tenant ≡ entry → steps.with_tenant state tenant change ≡ entry_where state tenant change entry
+pub entry-kept : (state : State) (tenant : ℕ) (change : TenantEntry → TenantEntry) (entry : Option TenantEntry) → finite.get state.tenants tenant ≡ entry → steps.with_tenant state tenant change ≡ entry_where state tenant change entry
 entry-kept state tenant change entry e = by (finite.get state.tenants tenant) ∙ ap (entry_where state tenant change) e
   where
     by : (found : Option TenantEntry) → (elim found [ None ↦ state | Some entry ↦ record { bases = state.bases; extensions = state.extensions; tenants = finite.insert state.tenants tenant (change entry) } ]) ≡ entry_where state tenant change found
@@ -141,17 +143,17 @@ entry-kept state tenant change entry e = by (finite.get state.tenants tenant) �
     by (Some entry) = refl
 
 -- the same change of a tenant in the service and in its catalogue
-catalogue-changed : (service : Service) (tenant : ℕ) (change : Tenant → Tenant) (other : TenantEntry → TenantEntry) → ((kept : Tenant) → entry_of (change kept) ≡ other (entry_of kept)) → catalogue_of (with_tenant service tenant change) ≡ steps.with_tenant (catalogue_of service) tenant other
+pub catalogue-changed : (service : Service) (tenant : ℕ) (change : Tenant → Tenant) (other : TenantEntry → TenantEntry) → ((kept : Tenant) → finite.get service.tenants tenant ≡ Some kept → entry_of (change kept) ≡ other (entry_of kept)) → catalogue_of (with_tenant service tenant change) ≡ steps.with_tenant (catalogue_of service) tenant other
 catalogue-changed service tenant change other same =
     ap catalogue_of (with_tenant-kept service tenant change (finite.get service.tenants tenant) refl)
-    ∙ by (finite.get service.tenants tenant)
+    ∙ by (finite.get service.tenants tenant) refl
     ∙ sym (entry-kept (catalogue_of service) tenant other (option_map entry_of (finite.get service.tenants tenant)) (get-in_each entry_of service.tenants tenant))
   where
-    by : (kept : Option Tenant) → catalogue_of (changed_where service tenant change kept) ≡ entry_where (catalogue_of service) tenant other (option_map entry_of kept)
-    by None = refl
-    by (Some kept) =
+    by : (kept : Option Tenant) → finite.get service.tenants tenant ≡ kept → catalogue_of (changed_where service tenant change kept) ≡ entry_where (catalogue_of service) tenant other (option_map entry_of kept)
+    by None e = refl
+    by (Some kept) e =
         ap (state_with service.tables service.extensions)
-        (entries-put service.tenants tenant (change kept) ∙ ap (finite.insert (in_each entry_of service.tenants) tenant) (same kept))
+        (entries-put service.tenants tenant (change kept) ∙ ap (finite.insert (in_each entry_of service.tenants) tenant) (same kept e))
 
 -- once a tenant's table was extended
 catalogue-extended : (service : Service) (tenant : ℕ) (name : List ℕ) → catalogue_of (applied service (Extend tenant name)) ≡ stepped (catalogue_of service) (Extend tenant name)
@@ -166,7 +168,7 @@ catalogue-extended service tenant name = by (extension_number service.extensions
     at : (number : ℕ) (found : Option Extension) → catalogue_of (extended (option_map (λ extension. (number, extension)) found))
         ≡ (elim found [ None ↦ state | Some extension ↦ steps.with_tenant state tenant (steps.with_table extension.base (steps.with_extension number extension.columns)) ])
     at number None = refl
-    at number (Some extension) = catalogue-changed service tenant (extended_tenant number extension) (steps.with_table extension.base (steps.with_extension number extension.columns)) (entry-extended number extension)
+    at number (Some extension) = catalogue-changed service tenant (extended_tenant number extension) (steps.with_table extension.base (steps.with_extension number extension.columns)) (λ kept there. entry-extended number extension kept)
 
     by : (found : Option ℕ) → catalogue_of (extended (elim found [ None ↦ None | Some number ↦ option_map (λ extension. (number, extension)) (slice_get service.extensions number) ])) ≡ extended_state (catalogue_of service) tenant found
     by None = refl
@@ -184,5 +186,5 @@ catalogue-applied service (CreateTenant tenant quota) in_step =
     ∙ ap (λ (tables : List TenantTable). finite.insert (in_each entry_of service.tenants) tenant (tenant_with quota tables)) (tables-new service.tables))
 catalogue-applied service (Extend tenant name) in_step = catalogue-extended service tenant name
 catalogue-applied service (SetQuota tenant quota) in_step =
-    catalogue-changed service tenant (λ kept. with_database (with_quota quota kept.database) kept) (λ entry. tenant_with quota entry.tables) (λ kept. refl)
+    catalogue-changed service tenant (λ kept. with_database (with_quota quota kept.database) kept) (λ entry. tenant_with quota entry.tables) (λ kept there. refl)
 catalogue-applied service command in_step = refl

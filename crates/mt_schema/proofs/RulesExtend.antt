@@ -16,7 +16,7 @@ use Rattle.mt_catalog.specs.Clauses.{Extends}
 use Rattle.mt_schema.specs.Refusals.{quota_of}
 use Rattle.mt_schema.specs.Steps.{extended_placement, stepped}
 use Rattle.mt_schema.proofs.CanExtend.{CanExtend, base_len, columns_before, entry_after, kept_table, stepped_is, table_after, valid_after}
-use Rattle.mt_schema.proofs.Names.{no_repeat_apart}
+use Rattle.mt_schema.proofs.NamesApart.{no_repeat_apart}
 use Rattle.mt_schema.proofs.Numbered.{changed_elsewhere, changed_there}
 use Rattle.mt_schema.proofs.Put.{put_tenant}
 use Rattle.mt_schema.proofs.Quotas.{quotas_put}

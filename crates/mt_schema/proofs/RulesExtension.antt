@@ -16,7 +16,7 @@ use Rattle.mt_catalog.specs.Rules.{AreApart, IsCatalogue, IsExtension, column_na
 use Rattle.mt_schema.specs.Refusals.{def_names, extension_tests, first_holding}
 use Rattle.mt_schema.specs.Steps.{defined_extension, stepped, table_number}
 use Rattle.mt_schema.proofs.Defined.{columns_are, names_are, plain_are}
-use Rattle.mt_schema.proofs.Names.{apart_behind, apart_pushed, no_place, no_repeat_apart, place_within}
+use Rattle.mt_schema.proofs.NamesApart.{apart_behind, apart_pushed, no_place, no_repeat_apart, place_within}
 use Rattle.mt_schema.proofs.Quotas.{quotas_same}
 use Rattle.mt_schema.proofs.Refused.{none_holds}
 use Rattle.mt_schema.proofs.Stays.{extension_stays, tenant_stays}

@@ -21,7 +21,7 @@ use Rattle.mt_schema.specs.Refusals.{def_names, first_holding, table_tests}
 use Rattle.mt_schema.specs.Steps.{defined_table, new_table, stepped, with_new_table}
 use Rattle.mt_schema.proofs.Defined.{columns_are}
 use Rattle.mt_schema.proofs.Maps.{get-in_each}
-use Rattle.mt_schema.proofs.Names.{apart_pushed, no_place, no_repeat_apart}
+use Rattle.mt_schema.proofs.NamesApart.{apart_pushed, no_place, no_repeat_apart}
 use Rattle.mt_schema.proofs.Numbered.{joined_front, pushed_there}
 use Rattle.mt_schema.proofs.Quotas.{quotas_kept}
 use Rattle.mt_schema.proofs.Refused.{none_holds}

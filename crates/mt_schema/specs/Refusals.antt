@@ -10,7 +10,6 @@ use Rattle.mt_tree.specs.declared.command.Def.{Def}
 use Rattle.mt_tree.specs.declared.command.DefKind.{DefKind}
 use Rattle.mt_tree.specs.declared.command.DefKind.TheVariants as def
 use Rattle.mt_tree.specs.declared.schema.Column.{Column}
-use Rattle.mt_tree.specs.declared.schema.Kind.TheVariants.{Integer, Varchar}
 use Rattle.mt_fold.specs.declared.fold.Placement.{Placement}
 use Rattle.mt_fold.specs.declared.fold.Placement.TheVariants.{Settled, Moving}
 use Rattle.mt_catalog.specs.declared.state.Extension.{Extension}

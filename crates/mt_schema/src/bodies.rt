@@ -11,13 +11,9 @@ use mt_catslot::{CatKey, write_body};
 use mt_list::List;
 use std::alloc::{AllocError, Global};
 
-/// The bodies of the slots that a catalogue has with these keys, in their order; nothing for a key with
-/// which it has none. `AllocError` is want of memory.
-pub(crate) fn written(
-    alloc: Global,
-    catalog: &Catalog,
-    keys: &[CatKey],
-) -> Result<CatBodies, AllocError>
+/// The bodies of the slots that a catalogue has with these keys, in their order, each with its table in
+/// front; nothing for a key with which it has none. `AllocError` is want of memory.
+pub fn written(alloc: Global, catalog: &Catalog, keys: &[CatKey]) -> Result<CatBodies, AllocError>
     requires { IsCatalogue catalog.now }
     ensures { IfOk result (λ bodies. AreWritten bodies (filter_map (spec.slot_of catalog.now) keys.now)) }
 {

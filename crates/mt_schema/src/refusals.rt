@@ -1,21 +1,23 @@
-ghost use Rattle.std.specs.Prelude.{◌≡◌, ℕ, ◌+◌, ◌≤◌, ◌||◌, nat_lt, not, List, ◌++◌, flat_map, length, slice_get, option_copied, is_some, unwrap_or, IfOk, OnOk};
+//! The first refusal of a schema step, in the administrator's order.
+ghost use Rattle.std.specs.Prelude.{◌≡◌, ◌+◌, ◌≤◌, ◌||◌, nat_lt, not, length, option_copied, is_some, unwrap_or, IfOk};
 ghost use Rattle.std.specs.FinMap as finite;
 ghost use Rattle.std.specs.List.{list_all};
-ghost use Rattle.std.specs.Str.{bytes_eq};
-ghost use Rattle.indexmap.specs.IndexSet.{contains};
-ghost use Rattle.mt_catalog.specs.Rules.{IsCatalogue, column_names, quota_total};
+ghost use Rattle.mt_catalog.specs.Rules.{IsCatalogue, quota_total};
 ghost use Rattle.mt_catalog.specs.State as state;
 ghost use Rattle.mt_catalog.specs.State.{State};
 ghost use Rattle.mt_schema.specs.Refusals as tests;
 ghost use Rattle.mt_schema.specs.Steps as steps;
 
-use crate::definitions::{extension_number, member, table_number};
-use crate::steps::{cover_for, tenant_of};
-use indexmap::IndexSet;
-use mt_catalog::{Catalog, Extension, TenantEntry, TenantTable};
+use crate::lookup::{
+    base_columns, cover_for, extension_named, extension_number, member, quota_of, table_number,
+    tenant_of,
+};
+use crate::names::{
+    add_column_names, extended_names, has_repeat, lacks_columns, repeats_beside, repeats_columns,
+};
+use mt_catalog::{Catalog, Extension, TenantTable};
 use mt_fold::Placement;
-use mt_list::List;
-use mt_tree::{AdminCmd, Code, Column, Def, DefKind, Names, Table};
+use mt_tree::{AdminCmd, Code, Column, Def, DefKind, Table};
 use mt_value::Str;
 use std::alloc::{AllocError, Global};
 
@@ -34,65 +36,6 @@ fn first_holding(asked: &[(Code, bool)]) -> Option<Code>
         rest = others;
     }
     None
-}
-
-/// Adds the names of columns at the end.
-fn add_column_names(names: &mut Names, columns: &[Column]) -> Result<(), AllocError>
-    ensures { OnOk result (names.new ≡ names.old ++ column_names columns.now) }
-{
-    let mut rest = columns;
-    while let Some((first, others)) = rest.split_first() {
-        names.push(first.name.copy()?)?;
-        rest = others;
-    }
-    Ok(())
-}
-
-/// Adds the names that are defined at the end.
-fn add_def_names(names: &mut Names, defs: &[Def]) -> Result<(), AllocError>
-    ensures { OnOk result (names.new ≡ names.old ++ tests.def_names defs.now) }
-{
-    let mut rest = defs;
-    while let Some((first, others)) = rest.split_first() {
-        names.push(first.name.copy()?)?;
-        rest = others;
-    }
-    Ok(())
-}
-
-/// Whether a name stands twice among these. A text can define thousands, so they are found by hash.
-fn has_repeat(alloc: Global, names: &[Str]) -> Result<bool, AllocError>
-    ensures { IfOk result (λ repeats. repeats ≡ tests.has_repeat names.now) }
-{
-    let mut seen = IndexSet::new(alloc);
-    let mut rest = names;
-    while let Some((first, others)) = rest.split_first() {
-        if !seen.insert(first.copy()?)? {
-            return Ok(true);
-        }
-        rest = others;
-    }
-    Ok(false)
-}
-
-/// The names that are defined, to be found by hash.
-fn named(alloc: Global, defs: &[Def]) -> Result<IndexSet<Str>, AllocError>
-    ensures { IfOk result (λ names. (name : List ℕ) → contains bytes_eq names name ≡ steps.has_name (tests.def_names defs.now) name) }
-{
-    let mut names = IndexSet::new(alloc);
-    let mut rest = defs;
-    while let Some((first, others)) = rest.split_first() {
-        names.insert(first.name.copy()?)?;
-        rest = others;
-    }
-    Ok(names)
-}
-
-/// Whether each of these is among the names.
-fn are_among(names: &IndexSet<Str>, wanted: &[Str]) -> bool
-    ensures { result ≡ list_all (contains bytes_eq names.now) wanted.now }
-{
-    wanted.iter().all(|name| names.contains(name))
 }
 
 /// Whether a number is from 1 to that one.
@@ -124,26 +67,6 @@ fn are_outside(defs: &[Def]) -> bool
     ensures { result ≡ tests.are_outside defs.now }
 {
     defs.len() > 16 || !are_sizes_within(defs)
-}
-
-/// Whether a column of a key is not defined.
-fn lacks_columns(alloc: Global, defs: &[Def], key: &[Str]) -> Result<bool, AllocError>
-    ensures { IfOk result (λ lacks. lacks ≡ not (list_all (steps.has_name (tests.def_names defs.now)) key.now)) }
-{
-    let names = named(alloc, defs)?;
-    Ok(!are_among(&names, key))
-}
-
-/// Whether a column is defined twice, or stands in a key twice.
-fn repeats_columns(alloc: Global, defs: &[Def], key: &[Str]) -> Result<bool, AllocError>
-    ensures { IfOk result (λ repeats. repeats ≡ (tests.has_repeat (tests.def_names defs.now) || tests.has_repeat key.now)) }
-{
-    let mut names = List::new(alloc);
-    add_def_names(&mut names, defs)?;
-    if has_repeat(alloc, names.as_slice())? {
-        return Ok(true);
-    }
-    has_repeat(alloc, key)
 }
 
 /// Whether there is a base table of that name.
@@ -183,36 +106,6 @@ fn table_refusal(
         (Code::ColumnNameTaken, repeats_columns(alloc, defs, key)?),
         (Code::Limit, is_over(bases.len(), 15, defs)),
     ]))
-}
-
-/// The columns of a base table; none where it is not there.
-fn base_columns(bases: &[Table], number: usize) -> &[Column]
-    ensures { result.now ≡ state.base_columns (slice_get bases.now number) }
-{
-    match member(bases, number) {
-        None => &[],
-        Some(base) => base.columns.as_slice(),
-    }
-}
-
-/// The columns of an extension; none where it is not there.
-fn extension_columns(extensions: &[Extension], number: usize) -> &[Column]
-    ensures { result.now ≡ state.extension_columns (slice_get extensions.now number) }
-{
-    match member(extensions, number) {
-        None => &[],
-        Some(extension) => extension.columns.as_slice(),
-    }
-}
-
-/// Whether a name stands twice among those of a base table's columns and those that are defined.
-fn repeats_beside(alloc: Global, columns: &[Column], defs: &[Def]) -> Result<bool, AllocError>
-    ensures { IfOk result (λ repeats. repeats ≡ tests.has_repeat (column_names columns.now ++ tests.def_names defs.now)) }
-{
-    let mut names = List::new(alloc);
-    add_column_names(&mut names, columns)?;
-    add_def_names(&mut names, defs)?;
-    has_repeat(alloc, names.as_slice())
 }
 
 /// The number of the table of that name, or 0.
@@ -298,37 +191,6 @@ fn tenant_refusal(catalog: &Catalog, tenant: u64, quota: u64) -> Option<Code>
     ])
 }
 
-/// Adds the names of the columns of these extensions at the end.
-fn add_extension_names(
-    names: &mut Names,
-    extensions: &[Extension],
-    numbers: &[u32],
-) -> Result<(), AllocError>
-    ensures { OnOk result (names.new ≡ names.old ++ column_names (flat_map (λ number. state.extension_columns (slice_get extensions.now number)) numbers.now)) }
-{
-    let mut rest = numbers;
-    while let Some((first, others)) = rest.split_first() {
-        add_column_names(names, extension_columns(extensions, *first as usize))?;
-        rest = others;
-    }
-    Ok(())
-}
-
-/// The names of the columns of a tenant's table.
-fn extended_names(
-    alloc: Global,
-    catalog: &Catalog,
-    base: usize,
-    numbers: &[u32],
-) -> Result<Names, AllocError>
-    ensures { IfOk result (λ names. names ≡ column_names (state.extended_columns catalog.now base numbers.now)) }
-{
-    let mut names = List::new(alloc);
-    add_column_names(&mut names, base_columns(catalog.bases.as_slice(), base))?;
-    add_extension_names(&mut names, catalog.extensions.as_slice(), numbers)?;
-    Ok(names)
-}
-
 /// Whether a table moves.
 fn is_moving(placement: &Placement) -> bool
     ensures { result ≡ tests.is_moving placement.now }
@@ -381,18 +243,8 @@ fn extended_refusal(
     ]))
 }
 
-/// The extension of that name.
-fn extension_named<'a>(catalog: &'a Catalog, name: &Str) -> Option<&'a Extension>
-    ensures { option_copied result ≡ tests.extension_named catalog.now name.now }
-{
-    match extension_number(catalog.extensions.as_slice(), name) {
-        None => None,
-        Some(number) => member(catalog.extensions.as_slice(), number),
-    }
-}
-
-/// A tenant's table of a base table.
-fn tenant_table(catalog: &Catalog, tenant: u64, base: u32) -> Option<&TenantTable>
+/// A tenant's table of a base table, by the tenant's number as a command gives it.
+fn table_of(catalog: &Catalog, tenant: u64, base: u32) -> Option<&TenantTable>
     requires { IsCatalogue catalog.now }
     ensures { option_copied result ≡ state.tenant_table catalog.now tenant base }
 {
@@ -415,20 +267,10 @@ fn extend_refusal(
     let Some(extension) = extension_named(catalog, name) else {
         return Ok(Some(Code::UnknownName));
     };
-    let Some(table) = tenant_table(catalog, tenant, extension.base) else {
+    let Some(table) = table_of(catalog, tenant, extension.base) else {
         return Ok(Some(Code::UnknownName));
     };
     extended_refusal(alloc, catalog, extension, table)
-}
-
-/// The quota of a tenant; 0 where there is none.
-fn quota_of(found: Option<&TenantEntry>) -> u64
-    ensures { result ≡ tests.quota_of (option_copied found.entry) }
-{
-    match found {
-        None => 0,
-        Some(entry) => u64::from(entry.quota),
-    }
 }
 
 /// The first refusal of SET QUOTA, where so many rows are kept of the tenant.
@@ -446,8 +288,11 @@ fn quota_refusal(catalog: &Catalog, kept: u64, tenant: u64, quota: u64) -> Optio
     ])
 }
 
-/// The first refusal of a schema step, where so many rows are kept of the tenant that it names.
-pub(crate) fn refusal(
+/// The first refusal of a schema step on a catalogue, where so many rows are kept, visible and trashed,
+/// of the tenant that the step names: the first of E42, E40, E41, E43, E44, E45, E61 and E63 that holds.
+/// `None` where the step is not refused, and for a command that is no schema step. `AllocError` is want
+/// of memory.
+pub fn refusal(
     alloc: Global,
     catalog: &Catalog,
     kept: u64,

@@ -1,4 +1,4 @@
-//! The slot that a catalogue has with a key, and what it looks up for it.
+//! The slot that a catalogue has with a key.
 ghost use Rattle.std.specs.Prelude.{◌≡◌, slice_get, IfOk, option_and_then, option_copied, option_map};
 ghost use Rattle.std.specs.FinMap as finite;
 ghost use Rattle.mt_catslot.specs.declared.slot.Class.TheVariants as classes;
@@ -6,7 +6,8 @@ ghost use Rattle.mt_catslot.specs.declared.slot.CatSlot.TheVariants as slots;
 ghost use Rattle.mt_catalog.specs.State as state;
 ghost use Rattle.mt_catalog.specs.Slots as spec;
 
-use mt_catalog::{Catalog, Extension, TenantEntry, TenantTable};
+use crate::lookup::{base_columns, extension_columns, member, tenant_entry, tenant_table};
+use mt_catalog::{Catalog, Extension};
 use mt_catslot::{CatKey, CatSlot, Class, Motion};
 use mt_fold::{Fold, Place, Placement};
 use mt_tree::{Column, Table};
@@ -36,34 +37,6 @@ pub(crate) fn slot_of(catalog: &Catalog, key: CatKey) -> Result<Option<CatSlot>,
             generation,
             column,
         } => Ok(field_slot(catalog, tenant, base, generation, column)),
-    }
-}
-
-/// The member at a number, if there is one.
-fn member<T>(members: &[T], number: usize) -> Option<&T>
-    ensures { option_copied result ≡ slice_get members.now number }
-{
-    if number < members.len() {
-        Some(&members[number])
-    } else {
-        None
-    }
-}
-
-/// A tenant, if there is one of that number.
-pub(crate) fn tenant_entry(catalog: &Catalog, tenant: u32) -> Option<&TenantEntry>
-    ensures { option_copied result ≡ finite.get catalog.now.tenants tenant }
-{
-    catalog.tenants.get(&tenant)
-}
-
-/// A tenant's table of a base table, if it is there.
-pub(crate) fn tenant_table(catalog: &Catalog, tenant: u32, base: u32) -> Option<&TenantTable>
-    ensures { option_copied result ≡ state.tenant_table catalog.now tenant base }
-{
-    match tenant_entry(catalog, tenant) {
-        None => None,
-        Some(entry) => member(entry.tables.as_slice(), base as usize),
     }
 }
 
@@ -116,28 +89,8 @@ fn class_columns(catalog: &Catalog, class: Class, number: u32) -> &[Column]
     ensures { result.now ≡ spec.class_columns catalog.now class number }
 {
     match class {
-        Class::BaseTable => base_columns(catalog.bases.as_slice(), number),
-        Class::Extension => extension_columns(catalog.extensions.as_slice(), number),
-    }
-}
-
-/// The columns of a base table; none where it is not there.
-fn base_columns(bases: &[Table], number: u32) -> &[Column]
-    ensures { result.now ≡ state.base_columns (slice_get bases.now number) }
-{
-    match member(bases, number as usize) {
-        None => &[],
-        Some(table) => table.columns.as_slice(),
-    }
-}
-
-/// The columns of an extension; none where it is not there.
-fn extension_columns(extensions: &[Extension], number: u32) -> &[Column]
-    ensures { result.now ≡ state.extension_columns (slice_get extensions.now number) }
-{
-    match member(extensions, number as usize) {
-        None => &[],
-        Some(extension) => extension.columns.as_slice(),
+        Class::BaseTable => base_columns(catalog.bases.as_slice(), number as usize),
+        Class::Extension => extension_columns(catalog.extensions.as_slice(), number as usize),
     }
 }
 

@@ -1,0 +1,11 @@
+-- What is left decides.
+use Rattle.std.proofs.Common.{length}
+use Rattle.std.specs.Prelude.{All, ◌↔◌}
+use Rattle.mt_catalog.specs.Rules.{IsColumn}
+use Rattle.mt_catcheck.proofs.rules.all_columns.Given as goal
+
+abbrev pub invariant-loop-first : goal.invariant-loop-first
+invariant-loop-first l = All IsColumn l.rest ↔ All IsColumn l.fn.columns
+
+abbrev pub decreases-loop-first : goal.decreases-loop-first
+decreases-loop-first l = length l.rest

@@ -1,0 +1,12 @@
+-- What is left decides.
+use Rattle.std.proofs.Common.{◌≡◌, length}
+use Rattle.std.specs.Prelude.{bytes_eq}
+use Rattle.std.specs.List.{list_any}
+use Rattle.mt_catalog.specs.Rules.{column_names}
+use Rattle.mt_catcheck.proofs.rules.has_name.Given as goal
+
+abbrev pub invariant-loop-first : goal.invariant-loop-first
+invariant-loop-first l = list_any (bytes_eq l.name) (column_names l.rest) ≡ list_any (bytes_eq l.name) (column_names l.fn.columns)
+
+abbrev pub decreases-loop-first : goal.decreases-loop-first
+decreases-loop-first l = length l.rest
