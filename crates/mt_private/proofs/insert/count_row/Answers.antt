@@ -5,7 +5,7 @@ use Rattle.mt_catalog.specs.declared.state.TenantEntry.{TenantEntry}
 use Rattle.mt_catalog.specs.State.{State, table_in}
 use Rattle.mt_catalog.proofs.Numbered.{got_looked}
 use Rattle.mt_schema.specs.Steps.{with_table}
-use Rattle.mt_schema.proofs.Copied.{entry_put, same_state}
+use Rattle.mt_prepare.proofs.Copied.{entry_put, same_state}
 use Rattle.mt_schema.proofs.Put.{put_tenant}
 use Rattle.mt_model.specs.Parts.{one_more_made}
 use Rattle.mt_private.proofs.Made.{made_nowhere, made_there}
