@@ -1,7 +1,7 @@
 -- The database of what is kept of a tenant, table by table.
 use Rattle.std.proofs.Common.{◌≡◌, ℕ, zero, suc, ◌+◌, Bool, true, false, not, List, [], ◌∷◌, length, map, sum_by, Option, None, Some, unwrap_or, refl, sym, ap, ◌∙◌, arith}
 use Rattle.std.specs.Prelude.{is_some, option_map, slice_get, slice_index_or}
-use Rattle.std.specs.List.{list_all, range_with_len}
+use Rattle.std.specs.List.{AllByRecursion as Each, list_all, range_with_len}
 use Rattle.std.proofs.lemmas.Bool.{and_parts}
 use Rattle.std.proofs.lemmas.List.Sums.{sum_by-cons}
 use Rattle.std.proofs.lemmas.Option.{get_or_from_slice_get, slice_get-map}
@@ -16,16 +16,17 @@ use Rattle.mt_tree.specs.declared.row.TableContent.{TableContent}
 use Rattle.mt_tree.specs.declared.schema.Column.{Column}
 use Rattle.mt_tree.specs.declared.simple.SimpleStmt.{SimpleStmt}
 use Rattle.mt_tree.specs.declared.simple.SimpleStmt.TheVariants.{Insert, Select}
-use Rattle.mt_tree.specs.Rows.{no_rows}
+use Rattle.mt_tree.specs.Rows.{no_rows, with_row}
 use Rattle.mt_catalog.specs.declared.state.TenantEntry.{TenantEntry}
 use Rattle.mt_catalog.specs.declared.state.TenantTable.{TenantTable}
 use Rattle.mt_catalog.specs.Found.{columns_among}
 use Rattle.mt_catalog.specs.State.{State, extended_columns}
 use Rattle.mt_schema.specs.Refusals.{first_holding}
 use Rattle.mt_schema.specs.Steps.{table_number}
+use Rattle.mt_schema.proofs.Refused.{none_holds}
 use Rattle.mt_model.specs.Answer.{answer_within, changed, columns_of, content_of, first_refusal, next_within, reply_text, table_of, tests_at}
 use Rattle.mt_model.specs.Database.{PrivateDatabase, kept_rows}
-use Rattle.mt_model.specs.Parts.{contents_from}
+use Rattle.mt_model.specs.Parts.{contents_from, with_content}
 use Rattle.mt_model.specs.Service.{View}
 use Rattle.mt_model.specs.Tables.{column_place, fit_columns, value_of}
 use Rattle.mt_private.specs.Seen.{database_in, kept_in, list_at, row_tests, view_in}
@@ -103,6 +104,18 @@ module _ (state : State) (entry : TenantEntry) (lists : List (List MarkedRow)) w
         ∙ ap (λ columns. first_holding (parts_tests literals columns (content_of database base) (kept_rows database))) columns_is
         ∙ ap (λ of. first_holding (parts_tests literals (extended_columns state base own.extended) of (kept_rows database))) content_is
         ∙ ap (λ kept. first_holding (parts_tests literals (extended_columns state base own.extended) (content own (list_at lists base)) kept)) kept_is
+
+    -- what is not refused passes each test
+    pub passed : (table : List ℕ) (literals : List Literal) → table_number state.bases table ≡ Some base → first_refusal view database (Insert table literals) ≡ None
+        → Each (λ test. test.1 ≡ false) (parts_tests literals (extended_columns state base own.extended) (content own (list_at lists base)) (kept_in lists (length entry.tables)))
+    passed table literals is none = none_holds _ (sym (insert_refusal table literals is) ∙ none)
+
+    -- and has one row more
+    pub changed_is : (table : List ℕ) (literals : List Literal) → table_number state.bases table ≡ Some base
+        → changed view database (Insert table literals) ≡ with_content database base (with_row (content own (list_at lists base)) (map value_of literals))
+    changed_is table literals is =
+        ap (λ (found : Option ℕ). with_content database (unwrap_or found 0) (with_row (content_of database (unwrap_or found 0)) (map value_of literals))) is
+        ∙ ap (λ (of : TableContent). with_content database base (with_row of (map value_of literals))) content_is
 
     -- literals that do not fit, and those that do
     pub misfit : (table : List ℕ) (literals : List Literal) → table_number state.bases table ≡ Some base → fit_columns (extended_columns state base own.extended) literals ≡ false → first_refusal view database (Insert table literals) ≡ Some TypesDoNotFit

@@ -3,6 +3,7 @@ pub mod Counted
 pub mod Databases
 pub mod Forgone
 pub mod Found
+pub mod Inserted
 pub mod Keeping
 pub mod Lists
 pub mod Made
