@@ -108,7 +108,8 @@ module _ (state : State) (entry : TenantEntry) (lists : List (List MarkedRow)) w
     -- what is not refused passes each test
     pub passed : (table : List ℕ) (literals : List Literal) → table_number state.bases table ≡ Some base → first_refusal view database (Insert table literals) ≡ None
         → Each (λ test. test.1 ≡ false) (parts_tests literals (extended_columns state base own.extended) (content own (list_at lists base)) (kept_in lists (length entry.tables)))
-    passed table literals is none = none_holds _ (sym (insert_refusal table literals is) ∙ none)
+    passed table literals is none =
+        none_holds (parts_tests literals (extended_columns state base own.extended) (content own (list_at lists base)) (kept_in lists (length entry.tables))) (sym (insert_refusal table literals is) ∙ none)
 
     -- and has one row more
     pub changed_is : (table : List ℕ) (literals : List Literal) → table_number state.bases table ≡ Some base
