@@ -93,7 +93,7 @@ module _ (state : State) (entry : TenantEntry) (lists : List (List MarkedRow)) w
         ap (columns_among state.bases state.extensions base)
         (get_or_from_slice_get database.extended base own.extended [] (slice_get-map (λ (table : TenantTable). table.extended) entry.tables base ∙ ap (option_map (λ (table : TenantTable). table.extended)) got))
 
-    abbrev parts_tests : List Literal → List Column → TableContent → ℕ → List (Code × Bool)
+    abbrev pub parts_tests : List Literal → List Column → TableContent → ℕ → List (Code × Bool)
     parts_tests literals columns of kept = (TypesDoNotFit, not (fit_columns columns literals)) ∷ row_tests columns of.rows (map value_of literals) entry.quota kept of.made
 
     -- the first refusal of an INSERT

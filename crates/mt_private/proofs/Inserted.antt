@@ -1,11 +1,13 @@
 -- What is kept once a row was inserted that nothing refuses.
-use Rattle.std.proofs.Common.{◌≡◌, ◌≢◌, inl, inr, ⊎_elim, ℕ, ◌+◌, ◌≤◌, ◌^◌, Bool, true, false, cond, ◌&&◌, ◌++◌, List, [], ◌∷◌, All, codes, length, map, sum_by, Option, None, Some, refl, sym, ap, ◌∙◌, subst, arith, eq-eqb, ne_eqb}
+use Rattle.std.proofs.Common.{◌≡◌, ◌≢◌, ◌⊎◌, inl, inr, ⊎_elim, ℕ, ◌+◌, ◌<◌, ◌≤◌, ◌^◌, Bool, true, false, cond, ◌&&◌, ◌++◌, List, [], ◌∷◌, All, codes, get_or, length, map, sum_by, Option, None, Some, refl, sym, ap, ◌∙◌, subst, arith, eq-eqb, ne_eqb}
 use Rattle.std.specs.Prelude.{nat_eq, slice_get}
+use Rattle.std.specs.Str.{bytes_eq}
 use Rattle.std.specs.FinMap as finite
-use Rattle.std.specs.List.{range_with_len}
+use Rattle.std.specs.List.{AllByRecursion as Each, range_with_len}
 use Rattle.std.proofs.lemmas.Bool.{cases_eq, ltb-false, not-false}
 use Rattle.std.proofs.lemmas.List.{length-append, length-map}
 use Rattle.std.proofs.lemmas.List.Elements.{All-push}
+use Rattle.std.proofs.lemmas.Option.{slice_get_cases}
 use Rattle.mt_value.specs.declared.value.Value.{Value}
 use Rattle.mt_tree.specs.declared.expression.Literal.{Literal}
 use Rattle.mt_tree.specs.declared.reply.Reply.{Reply}
@@ -13,6 +15,7 @@ use Rattle.mt_tree.specs.declared.reply.Reply.TheVariants.{Text}
 use Rattle.mt_tree.specs.declared.row.MarkedRow.{MarkedRow}
 use Rattle.mt_tree.specs.declared.row.TableContent.{TableContent}
 use Rattle.mt_tree.specs.declared.schema.Column.{Column}
+use Rattle.mt_tree.specs.declared.schema.Table.{Table}
 use Rattle.mt_tree.specs.declared.simple.SimpleStmt.{SimpleStmt}
 use Rattle.mt_tree.specs.declared.simple.SimpleStmt.TheVariants.{Insert}
 use Rattle.mt_tree.specs.Rows.{AreSound, with_row}
@@ -20,6 +23,7 @@ use Rattle.mt_catalog.specs.declared.state.TenantEntry.{TenantEntry}
 use Rattle.mt_catalog.specs.declared.state.TenantTable.{TenantTable}
 use Rattle.mt_catalog.specs.State.{State, extended_columns, table_in, tenant_table}
 use Rattle.mt_schema.specs.Steps.{table_number}
+use Rattle.mt_schema.proofs.NamesApart.{place_within}
 use Rattle.mt_model.specs.Answer.{answer, first_refusal, next_database}
 use Rattle.mt_model.specs.Database.{PrivateDatabase}
 use Rattle.mt_model.specs.Parts.{ConsistsOf, KeptRows, made_one, rows_inserted, with_content}
@@ -29,9 +33,9 @@ use Rattle.mt_model.specs.Service.{Service, Tenant, View, put_database}
 use Rattle.mt_model.specs.Tables.{value_of}
 use Rattle.mt_private.specs.Kept.{AreKept, IsKeptTable, TableRows, rows_in}
 use Rattle.mt_private.specs.Outcome.{IsAnswered}
-use Rattle.mt_private.specs.Seen.{AddsRow, database_in, list_at, lists_of, view_in}
+use Rattle.mt_private.specs.Seen.{AddsRow, database_in, kept_in, list_at, lists_of, view_in}
 use Rattle.mt_private.proofs.Counted.{sum_one_more, sum_same}
-use Rattle.mt_private.proofs.Databases.{changed_is, content, content_got, fit_length, next_done, passed, within_done}
+use Rattle.mt_private.proofs.Databases.{changed_is, content, content_got, fit_length, next_done, parts_tests, passed, within_done}
 use Rattle.mt_private.proofs.Keeping.{TellsDatabases, consists_same, tenant_is, view_is}
 use Rattle.mt_private.proofs.Made.{after, entry_before, made_is, made_keeps, table_before}
 
@@ -44,13 +48,25 @@ InsertsParts = (service : Service) (state : State) (rows : KeptRows) (number bas
 the_same : {A : Type 0} (x y : A) → Some x ≡ Some y → x ≡ y
 the_same x y e = cc
 
+-- a tenant has a table of each base table
+pub own_table : (state : State) (entry : TenantEntry) (table : List ℕ) (base : ℕ) → length entry.tables ≡ length state.bases → table_number state.bases table ≡ Some base → (own : TenantTable) × (slice_get entry.tables base ≡ Some own)
+own_table state entry table base each is = by (slice_get_cases entry.tables base).1
+  where
+    within : base < length state.bases
+    within = place_within (λ (one : Table). bytes_eq one.name table) state.bases base is
+
+    by : ((own : TenantTable) × (base < length entry.tables) × (slice_get entry.tables base ≡ Some own) × (get_or entry.tables base own ≡ own)) ⊎ ((length entry.tables ≤ base) × (slice_get entry.tables base ≡ None))
+        → (own : TenantTable) × (slice_get entry.tables base ≡ Some own)
+    by (inl there) = (there.0, there.2.0)
+    by (inr past) = let behind = past.0 in absurd (omega (arith, within, behind, each))
+
 -- a visible row of these values
 abbrev row_of : List Value → MarkedRow
 row_of values = record { visible = true; values = values }
 
 -- the tables that get a row more, and those that do not
 module _ (entries left : TableRows) (tenant base : ℕ) (values : List Value) (adds : AddsRow tenant base values entries left) where
-  chosen : Bool → Bool → ℕ → ℕ → List MarkedRow
+  abbrev chosen : Bool → Bool → ℕ → ℕ → List MarkedRow
   chosen a b number other = cond (a && b) (rows_in entries number other ++ row_of values ∷ []) (rows_in entries number other)
 
   added_there : rows_in left tenant base ≡ rows_in entries tenant base ++ row_of values ∷ []
@@ -67,6 +83,11 @@ module _ (entries left : TableRows) (tenant base : ℕ) (values : List Value) (a
       neither : (b : Bool) → chosen b false number other ≡ rows_in entries number other
       neither true = refl
       neither false = refl
+
+-- the number of the row is within what a table may have
+pub has_number : (state : State) (entry : TenantEntry) (lists : List (List MarkedRow)) (base : ℕ) (own : TenantTable) → slice_get entry.tables base ≡ Some own → (table : List ℕ) (literals : List Literal) → table_number state.bases table ≡ Some base
+    → first_refusal (view_in state entry lists) (database_in entry lists) (Insert table literals) ≡ None → own.made + 1 ≤ 2 ^ 63
+has_number state entry lists base own got table literals is none = ltb-false (2 ^ 63) (own.made + 1) (passed state entry lists base own got table literals is none).1.1.1.1.1.0
 
 module _ (tells : TellsDatabases) (inserts : InsertsParts) (state : State) (entries left : TableRows) (tenant base : ℕ) (entry : TenantEntry) (there : finite.get state.tenants tenant ≡ Some entry)
     (own : TenantTable) (got : slice_get entry.tables base ≡ Some own) (table : List ℕ) (literals : List Literal) (is : table_number state.bases table ≡ Some base)
@@ -90,10 +111,8 @@ module _ (tells : TellsDatabases) (inserts : InsertsParts) (state : State) (entr
   abbrev counted : State
   counted = after state tenant base entry own
 
+  tested : Each (λ test. test.1 ≡ false) (parts_tests state entry lists base own got literals columns (content own (list_at lists base)) (kept_in lists (length entry.tables)))
   tested = passed state entry lists base own got table literals is none
-
-  room : own.made + 1 ≤ 2 ^ 63
-  room = ltb-false (2 ^ 63) (own.made + 1) tested.1.1.1.1.1.0
 
   sound : AreSound columns (list_at lists base ++ row_of values ∷ [])
   sound = record { no_long_text = tested.1.0; no_null = tested.1.1.0; no_duplicate_key = tested.1.1.1.0 }
@@ -174,7 +193,7 @@ module _ (tells : TellsDatabases) (inserts : InsertsParts) (state : State) (entr
     kept_after =
         let same = made_is state kept.rules tenant base entry there own got in
         subst (λ (of : State). AreKept of left (put_database service tenant (Some changed_database))) (sym same) (record {
-          rules = made_keeps state kept.rules tenant base entry there own got room;
+          rules = made_keeps state kept.rules tenant base entry there own got (has_number state entry lists base own got table literals is none);
           consists = subst (λ (of : State). ConsistsOf (put_database service tenant (Some changed_database)) of (rows_in left)) same consists;
           tables = tables;
           quotas = quotas;
