@@ -1,6 +1,6 @@
 -- What is kept once a row was inserted that nothing refuses.
 use Rattle.std.proofs.Common.{◌≡◌, ◌≢◌, ◌⊎◌, inl, inr, ⊎_elim, ℕ, ◌+◌, ◌<◌, ◌≤◌, ◌^◌, Bool, true, false, cond, ◌&&◌, ◌++◌, List, [], ◌∷◌, All, codes, get_or, length, map, sum_by, Option, None, Some, refl, sym, ap, ◌∙◌, subst, arith, eq-eqb, ne_eqb}
-use Rattle.std.specs.Prelude.{nat_eq, slice_get}
+use Rattle.std.specs.Prelude.{nat_eq, slice_get, slice_set}
 use Rattle.std.specs.Str.{bytes_eq}
 use Rattle.std.specs.FinMap as finite
 use Rattle.std.specs.List.{AllByRecursion as Each, range_with_len}
@@ -24,9 +24,10 @@ use Rattle.mt_catalog.specs.declared.state.TenantTable.{TenantTable}
 use Rattle.mt_catalog.specs.State.{State, extended_columns, table_in, tenant_table}
 use Rattle.mt_schema.specs.Steps.{table_number}
 use Rattle.mt_schema.proofs.NamesApart.{place_within}
+use Rattle.mt_schema.proofs.Put.{put_tenant}
 use Rattle.mt_model.specs.Answer.{answer, first_refusal, next_database}
 use Rattle.mt_model.specs.Database.{PrivateDatabase}
-use Rattle.mt_model.specs.Parts.{ConsistsOf, KeptRows, made_one, rows_inserted, with_content}
+use Rattle.mt_model.specs.Parts.{ConsistsOf, KeptRows, made_one, one_more_made, rows_inserted, with_content}
 use Rattle.mt_model.specs.Request.{Statement}
 use Rattle.mt_model.specs.Said.{Says}
 use Rattle.mt_model.specs.Service.{Service, Tenant, View, put_database}
@@ -37,7 +38,7 @@ use Rattle.mt_private.specs.Seen.{AddsRow, database_in, kept_in, list_at, lists_
 use Rattle.mt_private.proofs.Counted.{sum_one_more, sum_same}
 use Rattle.mt_private.proofs.Databases.{changed_is, content, content_got, fit_length, next_done, parts_tests, passed, within_done}
 use Rattle.mt_private.proofs.Keeping.{TellsDatabases, consists_same, tenant_is, view_is}
-use Rattle.mt_private.proofs.Made.{after, entry_before, made_is, made_keeps, table_before}
+use Rattle.mt_private.proofs.Made.{entry_before, made_is, made_keeps, table_before}
 
 -- an inserted row is one of the parts
 abbrev pub InsertsParts : Type 0
@@ -57,7 +58,7 @@ own_table state entry table base each is = by (slice_get_cases entry.tables base
 
     by : ((own : TenantTable) × (base < length entry.tables) × (slice_get entry.tables base ≡ Some own) × (get_or entry.tables base own ≡ own)) ⊎ ((length entry.tables ≤ base) × (slice_get entry.tables base ≡ None))
         → (own : TenantTable) × (slice_get entry.tables base ≡ Some own)
-    by (inl there) = (there.0, there.2.0)
+    by (inl there) = (there.0, there.2)
     by (inr past) = let behind = past.0 in absurd (omega (arith, within, behind, each))
 
 -- a visible row of these values
@@ -109,7 +110,7 @@ module _ (tells : TellsDatabases) (inserts : InsertsParts) (state : State) (entr
   changed_database = with_content database base (with_row (content own (list_at lists base)) values)
 
   abbrev counted : State
-  counted = after state tenant base entry own
+  counted = put_tenant state tenant (record { quota = entry.quota; tables = slice_set entry.tables base (one_more_made own) })
 
   tested : Each (λ test. test.1 ≡ false) (parts_tests state entry lists base own got literals columns (content own (list_at lists base)) (kept_in lists (length entry.tables)))
   tested = passed state entry lists base own got table literals is none
@@ -148,7 +149,7 @@ module _ (tells : TellsDatabases) (inserts : InsertsParts) (state : State) (entr
             subst (IsKeptTable (extended_columns state other one.extended)) (ap (λ n. rows_in left n base) (sym same_tenant) ∙ ap (rows_in left number) (sym same_base))
             (subst (λ of. IsKeptTable of (rows_in left tenant base)) columns_same (wider (kept.tables tenant base own own_there)))
 
-    sizes : ℕ → TableRows → ℕ → ℕ
+    abbrev sizes : ℕ → TableRows → ℕ → ℕ
     sizes number of other = length (rows_in of number other)
 
     own_quota : sum_by (sizes tenant left) (range_with_len 0 (length state.bases)) ≤ entry.quota

@@ -35,7 +35,7 @@ insert_row-requires c = λ table there.
     let lists = lists_of c.args.rows.now.entries c.args.tenant in
     let checked = told c.args.catalog.now c.in-Some.entry.now c.lists_of.result.now lists c.args.table.now c.args.values c.in-Ok-Ok.field-0 (Ok (c.in-Ok-Ok.base, c.in-Ok-Ok.row)) c.lists_of.ensures c.in-Ok-Ok.field-0-is c.in-Ok-Ok.ensures in
     let got = ap (table_in c.in-Ok-Ok.base) c.in-Some.ensures ∙ there in
-    let within = has_number c.args.catalog.now c.in-Some.entry.now lists c.in-Ok-Ok.base table got c.args.table.now c.args.values checked.1.0 checked.0 in
+    let within = has_number c.args.catalog.now c.in-Some.entry.now lists c.in-Ok-Ok.base table got c.args.table.now c.args.values checked.1 checked.0 in
     omega (arith, within)
 
 pub returns-in-Ok : goal.returns-in-Ok
@@ -44,11 +44,11 @@ returns-in-Ok c =
     let lists = lists_of entries c.args.tenant in
     let checked = told c.args.catalog.now c.in-Some.entry.now c.lists_of.result.now lists c.args.table.now c.args.values c.in-Ok-Ok.field-0 (Ok (c.in-Ok-Ok.base, c.in-Ok-Ok.row)) c.lists_of.ensures c.in-Ok-Ok.field-0-is c.in-Ok-Ok.ensures in
     let there = sym c.in-Some.ensures in
-    let own = own_table c.args.catalog.now c.in-Some.entry.now c.args.table.now c.in-Ok-Ok.base (c.requires.1.rules.tenants c.args.tenant c.in-Some.entry.now there).each_base checked.1.0 in
-    let adds = subst (λ (values : List Value). AddsRow c.args.tenant c.in-Ok-Ok.base values entries c.insert_row.new.rows.entries) checked.1.1 c.in-Ok.ensures.added in
+    let own = own_table c.args.catalog.now c.in-Some.entry.now c.args.table.now c.in-Ok-Ok.base (c.requires.1.rules.tenants c.args.tenant c.in-Some.entry.now there).each_base checked.1 in
+    let adds = subst (λ (values : List Value). AddsRow c.args.tenant c.in-Ok-Ok.base values entries c.insert_row.new.rows.entries) checked.2 c.in-Ok.ensures.added in
     subst (λ (of : State). IsAnswered c.args.catalog.now of entries c.insert_row.new.rows.entries (Statement c.args.tenant (Says (Insert c.args.table.now c.args.values))) (Text c.in-Ok.text)) (sym c.in-Ok.ensures.counted)
     (added c.parts_tell_the_service.ensures.databases c.inserted_rows_are_parts.ensures c.args.catalog.now entries c.insert_row.new.rows.entries c.args.tenant c.in-Ok-Ok.base c.in-Some.entry.now there
-      own.0 own.1 c.args.table.now c.args.values checked.1.0 checked.0 adds c.in-Ok.text c.in-Ok.ensures.reply)
+      own.0 own.1 c.args.table.now c.args.values checked.1 checked.0 adds c.in-Ok.text c.in-Ok.ensures.reply)
 
 pub returns-in-Err-insert_row : goal.returns-in-Err-insert_row
 returns-in-Err-insert_row c =
