@@ -8,12 +8,9 @@ use Rattle.mt_tree.specs.declared.reply.Reply.TheVariants.{Refused}
 use Rattle.mt_tree.specs.declared.simple.SimpleStmt.{SimpleStmt}
 use Rattle.mt_tree.specs.declared.simple.SimpleStmt.TheVariants.{Insert, Select}
 use Rattle.mt_catalog.specs.declared.state.TenantEntry.{TenantEntry}
-use Rattle.mt_catalog.specs.State.{State}
-use Rattle.mt_model.specs.Request.{Statement}
 use Rattle.mt_model.specs.Said.{IsStatementSaid, Outside, Says, Unread, Unserved}
 use Rattle.mt_private.specs.declared.said.ServeFault.{ServeFault}
 use Rattle.mt_private.specs.declared.said.ServeFault.TheVariants as fault
-use Rattle.mt_private.specs.Outcome.{IsAnswered}
 use Rattle.mt_private.specs.Serving.{ServesAs}
 use Rattle.mt_private.proofs.Keeping.{forgone, unchanged, unknown}
 use Rattle.mt_private.proofs.statement.statement.Goals as goal
@@ -41,15 +38,13 @@ pub returns-in-Ok-Insert : goal.returns-in-Ok-Insert
 returns-in-Ok-Insert c =
     (Says (Insert c.in-Ok-Insert.table c.in-Ok-Insert.values),
      said_by c.args.text.now (Ok c.in-Ok-Insert.field-0) (Ok (Insert c.in-Ok-Insert.table c.in-Ok-Insert.values)) (ap Ok c.in-Ok-Insert.field-0-is) c.in-Ok-Insert.ensures,
-     subst (λ (table : List ℕ). IsAnswered c.args.catalog.now c.insert.new.catalog c.args.rows.now.entries c.insert.new.rows.entries (Statement c.args.tenant (Says (Insert table c.in-Ok-Insert.values))) c.insert.result)
-     c.table.view_is c.insert.ensures)
+     c.insert.ensures)
 
 pub returns-in-Ok-Select : goal.returns-in-Ok-Select
 returns-in-Ok-Select c =
     (Says (Select c.in-Ok-Select.table c.in-Ok-Select.columns),
      said_by c.args.text.now (Ok c.in-Ok-Select.field-0) (Ok (Select c.in-Ok-Select.table c.in-Ok-Select.columns)) (ap Ok c.in-Ok-Select.field-0-is) c.in-Ok-Select.ensures,
-     subst (λ (table : List ℕ). IsAnswered c.args.catalog.now c.args.catalog.now c.args.rows.now.entries c.args.rows.now.entries (Statement c.args.tenant (Says (Select table c.in-Ok-Select.columns))) c.select.result)
-     c.table-in-Ok-Select.view_is c.select.ensures)
+     c.select.ensures)
 
 pub returns-in-Err-Unread : goal.returns-in-Err-Unread
 returns-in-Err-Unread c =
