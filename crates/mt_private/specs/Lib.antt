@@ -3,4 +3,5 @@ pub mod Kept
 pub mod Outcome
 pub mod Seen
 pub mod Serving
+pub mod Stepped
 pub mod Visible

@@ -1,11 +1,11 @@
 ghost use Rattle.mt_model.specs.Said.{IsStatementSaid, IsCommandSaid};
 ghost use Rattle.mt_private.specs.Serving.{ServesAs};
 
-use crate::served::{served_command, served_statement};
+use crate::served::{is_schema_step, served_statement};
 use mt_adminlang::parse_admin;
 use mt_grammar::parse;
 use mt_reader::ParseFault;
-use mt_tree::{SimpleCmd, SimpleStmt};
+use mt_tree::{AdminCmd, SimpleStmt};
 use std::alloc::{AllocError, Global};
 use thiserror::Error;
 
@@ -62,13 +62,14 @@ pub(crate) fn said_statement(alloc: Global, text: &str) -> Result<SimpleStmt, Se
     }
 }
 
-/// What the administrator's text says.
-pub(crate) fn said_command(alloc: Global, text: &str) -> Result<SimpleCmd, ServeFault>
+/// What the administrator's text says: a schema step is served.
+pub(crate) fn said_command(alloc: Global, text: &str) -> Result<AdminCmd, ServeFault>
     ensures { ServesAs (λ said. IsCommandSaid text.now said) result }
 {
     let command = parse_admin(alloc, text)?;
-    match served_command(alloc, command)? {
-        Some(simple) => Ok(simple),
-        None => Err(ServeFault::Unserved),
+    if is_schema_step(&command) {
+        Ok(command)
+    } else {
+        Err(ServeFault::Unserved)
     }
 }

@@ -1,12 +1,13 @@
 ghost use Rattle.std.specs.Prelude.{[], ◌∷◌, map, IfOk};
+ghost use Rattle.std.specs.Bool.{Decides};
 ghost use Rattle.mt_tree.specs.declared.statement.Stmt.TheVariants as stmt;
-ghost use Rattle.mt_model.specs.Served.{bare_item, bare_ref, statement_tree, plain_def, command_tree};
+ghost use Rattle.mt_schema.specs.Steps.{IsSchemaStep};
+ghost use Rattle.mt_model.specs.Served.{bare_item, bare_ref, statement_tree};
 ghost use Rattle.mt_private.specs.Finding.{Finds};
 
 use mt_list::List;
 use mt_tree::{
-    AdminCmd, Atom, ColName, Def, Expr, Insert, Item, Names, Ref, Select, SimpleCmd, SimpleDef,
-    SimpleStmt, Stmt,
+    AdminCmd, Atom, ColName, Expr, Insert, Item, Names, Ref, Select, SimpleStmt, Stmt,
 };
 use mt_value::Str;
 use std::alloc::{AllocError, Global};
@@ -127,43 +128,20 @@ fn bare_name(item: Item) -> Option<Str>
     Some(name)
 }
 
-/// The form that a command has, if it is one of those that are served so far.
-pub(crate) fn served_command(
-    alloc: Global,
-    command: AdminCmd,
-) -> Result<Option<SimpleCmd>, AllocError>
-    ensures { IfOk result (Finds command_tree command) }
+/// Whether a command is a schema step; these are served.
+pub(crate) fn is_schema_step(command: &AdminCmd) -> bool
+    ensures { Decides result (IsSchemaStep command.now) }
 {
     match command {
-        AdminCmd::CreateTable { name, columns, key } => {
-            if !key.is_empty() {
-                return Ok(None);
-            }
-            let Some(columns) = simple_defs(alloc, columns)? else {
-                return Ok(None);
-            };
-            Ok(Some(SimpleCmd::CreateTable { name, columns }))
-        }
-        AdminCmd::CreateTenant { tenant, quota } => {
-            Ok(Some(SimpleCmd::CreateTenant { tenant, quota }))
-        }
-        _ => Ok(None),
+        AdminCmd::CreateTable { .. }
+        | AdminCmd::CreateExtension { .. }
+        | AdminCmd::CreateTenant { .. }
+        | AdminCmd::Extend { .. }
+        | AdminCmd::SetQuota { .. } => true,
+        AdminCmd::Advise { .. }
+        | AdminCmd::ShowFold { .. }
+        | AdminCmd::Refold { .. }
+        | AdminCmd::Step { .. }
+        | AdminCmd::Explain { .. } => false,
     }
-}
-
-/// The names and kinds of columns, if NULL may stand in each.
-fn simple_defs(alloc: Global, columns: List<Def>) -> Result<Option<List<SimpleDef>>, AllocError>
-    ensures { IfOk result (Finds (map plain_def) columns) }
-{
-    let mut defs = List::new(alloc);
-    for def in columns.into_vec() {
-        if def.not_null {
-            return Ok(None);
-        }
-        defs.push(SimpleDef {
-            name: def.name,
-            kind: def.kind,
-        })?;
-    }
-    Ok(Some(defs))
 }
