@@ -53,14 +53,10 @@ kept_contents rows from (table ∷ tables) =
     ∙ ap (λ n. length (rows from) + n) (kept_contents rows (from + 1) tables)
     ∙ sym (sum_by-cons (λ base. length (rows base)) from (range_with_len (from + 1) (length tables)))
 
--- the tests of a statement whose table is there, or not
+-- the tests of a statement whose table is there
 pub refusal_at : (view : View) (database : PrivateDatabase) (statement : SimpleStmt) (base : ℕ) → table_number view.tables (table_of statement) ≡ Some base → first_refusal view database statement ≡ first_holding (tests_at view database statement base)
 refusal_at view database statement base is =
     ap (λ (found : Option ℕ). first_holding (elim found as (λ _. List (Code × Bool)) [ None ↦ (UnknownTable, true) ∷ [] | Some number ↦ tests_at view database statement number ])) is
-
-pub refusal_nowhere : (view : View) (database : PrivateDatabase) (statement : SimpleStmt) → table_number view.tables (table_of statement) ≡ None → first_refusal view database statement ≡ Some UnknownTable
-refusal_nowhere view database statement none =
-    ap (λ (found : Option ℕ). first_holding (elim found as (λ _. List (Code × Bool)) [ None ↦ (UnknownTable, true) ∷ [] | Some number ↦ tests_at view database statement number ])) none
 
 -- what is refused is answered by its code, and what is not refused by its text
 pub within_refused : (view : View) (database : PrivateDatabase) (statement : SimpleStmt) (code : Code) → first_refusal view database statement ≡ Some code → answer_within view database statement ≡ Refused code

@@ -61,11 +61,6 @@ held : (database : PrivateDatabase) (found : Option Tenant) → option_map (λ (
 held database None is = absurd (cc)
 held database (Some tenant) is = (tenant, refl, cc)
 
--- without a database nobody is there
-unheld : (found : Option Tenant) → option_map (λ (tenant : Tenant). tenant.database) found ≡ None → found ≡ None
-unheld None is = refl
-unheld (Some tenant) is = absurd (cc)
-
 abbrev view_at : State → Option PrivateDatabase → View
 view_at state database = record { tables = state.bases; extensions = state.extensions; database = database }
 

@@ -1,7 +1,6 @@
 -- The tests are those of the tenant's database.
-use Rattle.std.proofs.Common.{◌≡◌, ◌+◌, false, true, not, nat_lt, length, map, sym, ap, ◌∙◌}
+use Rattle.std.proofs.Common.{length, sym, ap, ◌∙◌}
 use Rattle.std.proofs.lemmas.List.{length-map}
-use Rattle.mt_tree.specs.declared.expression.Literal.{Literal}
 use Rattle.mt_catalog.specs.State.{extended_columns}
 use Rattle.mt_model.specs.Tables.{fit_columns, value_of}
 use Rattle.mt_private.specs.Seen.{kept_in}

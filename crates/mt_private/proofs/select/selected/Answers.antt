@@ -1,5 +1,5 @@
 -- The reply is that of the tenant's database.
-use Rattle.std.proofs.Common.{◌≡◌, List, sym, ap, ◌∙◌}
+use Rattle.std.proofs.Common.{List, sym, ap, ◌∙◌}
 use Rattle.std.specs.Prelude.{is_some}
 use Rattle.std.specs.List.{list_all}
 use Rattle.mt_tree.specs.declared.reply.Reply.TheVariants.{Text}
