@@ -1,6 +1,6 @@
 -- The database of what is kept of a tenant, table by table.
 use Rattle.std.proofs.Common.{◌≡◌, ℕ, zero, suc, ◌+◌, Bool, true, false, not, List, [], ◌∷◌, length, map, sum_by, Option, None, Some, unwrap_or, refl, sym, ap, ◌∙◌, arith}
-use Rattle.std.specs.Prelude.{is_some, option_map, slice_get, slice_index_or}
+use Rattle.std.specs.Prelude.{is_some, option_map, slice_get}
 use Rattle.std.specs.List.{AllByRecursion as Each, list_all, range_with_len}
 use Rattle.std.proofs.lemmas.Bool.{and_parts}
 use Rattle.std.proofs.lemmas.List.Sums.{sum_by-cons}
@@ -53,14 +53,10 @@ kept_contents rows from (table ∷ tables) =
     ∙ ap (λ n. length (rows from) + n) (kept_contents rows (from + 1) tables)
     ∙ sym (sum_by-cons (λ base. length (rows base)) from (range_with_len (from + 1) (length tables)))
 
--- the tests of a statement whose table is there, or not
+-- the tests of a statement whose table is there
 pub refusal_at : (view : View) (database : PrivateDatabase) (statement : SimpleStmt) (base : ℕ) → table_number view.tables (table_of statement) ≡ Some base → first_refusal view database statement ≡ first_holding (tests_at view database statement base)
 refusal_at view database statement base is =
     ap (λ (found : Option ℕ). first_holding (elim found as (λ _. List (Code × Bool)) [ None ↦ (UnknownTable, true) ∷ [] | Some number ↦ tests_at view database statement number ])) is
-
-pub refusal_nowhere : (view : View) (database : PrivateDatabase) (statement : SimpleStmt) → table_number view.tables (table_of statement) ≡ None → first_refusal view database statement ≡ Some UnknownTable
-refusal_nowhere view database statement none =
-    ap (λ (found : Option ℕ). first_holding (elim found as (λ _. List (Code × Bool)) [ None ↦ (UnknownTable, true) ∷ [] | Some number ↦ tests_at view database statement number ])) none
 
 -- what is refused is answered by its code, and what is not refused by its text
 pub within_refused : (view : View) (database : PrivateDatabase) (statement : SimpleStmt) (code : Code) → first_refusal view database statement ≡ Some code → answer_within view database statement ≡ Refused code
@@ -131,9 +127,9 @@ module _ (state : State) (entry : TenantEntry) (lists : List (List MarkedRow)) w
         let tests : List (Code × Bool) = row_tests (extended_columns state base own.extended) (list_at lists base) (map value_of literals) entry.quota (kept_in lists (length entry.tables)) own.made in
         insert_refusal table literals is ∙ ap (λ fit. first_holding ((TypesDoNotFit, not fit) ∷ tests)) fits
         ∙ sym (ap (λ of. first_holding (row_tests of rows values entry.quota kept own.made)) columns_are
-          ∙ ap (λ of. first_holding (row_tests (extended_columns state base own.extended) of values entry.quota kept own.made)) rows_are
-          ∙ ap (λ of. first_holding (row_tests (extended_columns state base own.extended) (list_at lists base) of entry.quota kept own.made)) values_are
-          ∙ ap (λ of. first_holding (row_tests (extended_columns state base own.extended) (list_at lists base) (map value_of literals) entry.quota of own.made)) kept_are)
+        ∙ ap (λ of. first_holding (row_tests (extended_columns state base own.extended) of values entry.quota kept own.made)) rows_are
+        ∙ ap (λ of. first_holding (row_tests (extended_columns state base own.extended) (list_at lists base) of entry.quota kept own.made)) values_are
+        ∙ ap (λ of. first_holding (row_tests (extended_columns state base own.extended) (list_at lists base) (map value_of literals) entry.quota of own.made)) kept_are)
 
     -- whether the columns of a SELECT are there
     abbrev known : List (List ℕ) → Bool

@@ -1,5 +1,5 @@
 -- What is kept once a row was inserted that nothing refuses.
-use Rattle.std.proofs.Common.{◌≡◌, ◌≢◌, ◌⊎◌, inl, inr, ⊎_elim, ℕ, ◌+◌, ◌<◌, ◌≤◌, ◌^◌, Bool, true, false, cond, ◌&&◌, ◌++◌, List, [], ◌∷◌, All, codes, get_or, length, map, sum_by, Option, None, Some, refl, sym, ap, ◌∙◌, subst, arith, eq-eqb, ne_eqb}
+use Rattle.std.proofs.Common.{◌≡◌, ◌≢◌, ◌⊎◌, inl, inr, ⊎_elim, ℕ, ◌+◌, ◌<◌, ◌≤◌, ◌^◌, Bool, true, false, cond, ◌&&◌, ◌++◌, List, [], ◌∷◌, codes, get_or, length, map, sum_by, None, Some, refl, sym, ap, ◌∙◌, subst, arith, eq-eqb, ne_eqb}
 use Rattle.std.specs.Prelude.{nat_eq, slice_get, slice_set}
 use Rattle.std.specs.Str.{bytes_eq}
 use Rattle.std.specs.FinMap as finite
@@ -10,7 +10,6 @@ use Rattle.std.proofs.lemmas.List.Elements.{All-push}
 use Rattle.std.proofs.lemmas.Option.{slice_get_cases}
 use Rattle.mt_value.specs.declared.value.Value.{Value}
 use Rattle.mt_tree.specs.declared.expression.Literal.{Literal}
-use Rattle.mt_tree.specs.declared.reply.Reply.{Reply}
 use Rattle.mt_tree.specs.declared.reply.Reply.TheVariants.{Text}
 use Rattle.mt_tree.specs.declared.row.MarkedRow.{MarkedRow}
 use Rattle.mt_tree.specs.declared.row.TableContent.{TableContent}
@@ -204,10 +203,13 @@ module _ (tells : TellsDatabases) (inserts : InsertsParts) (state : State) (entr
   added text ok service kept =
       let statement : SimpleStmt = Insert table literals in
       let seen : View = view_in state entry lists in
-      let view = view_is tells state entries tenant entry there service kept in
-      (put_database service tenant (Some changed_database), inl (record {
-        reply_is = ap Text ok ∙ sym (ap (λ (v : View). answer v (Says statement)) view ∙ within_done seen database statement none);
-        next_is =
-            sym (ap (λ (v : View). put_database service tenant (next_database v (Says statement))) view
-            ∙ ap (λ (of : PrivateDatabase). put_database service tenant (Some of)) (next_done seen database statement none ∙ changed_is state entry lists base own got table literals is));
-      }), kept_after service kept)
+      let view = view_is tells state entries tenant entry there service kept in (
+        put_database service tenant (Some changed_database),
+        inl (record {
+          reply_is = ap Text ok ∙ sym (ap (λ (v : View). answer v (Says statement)) view ∙ within_done seen database statement none);
+          next_is =
+              sym (ap (λ (v : View). put_database service tenant (next_database v (Says statement))) view
+              ∙ ap (λ (of : PrivateDatabase). put_database service tenant (Some of)) (next_done seen database statement none ∙ changed_is state entry lists base own got table literals is));
+        }),
+        kept_after service kept,
+      )

@@ -1,5 +1,5 @@
 -- What is kept once a statement of a tenant was answered.
-use Rattle.std.proofs.Common.{◌≡◌, ◌≢◌, inl, inr, ⊎_elim, ℕ, ◌+◌, ◌<◌, ◌≤◌, Option, None, Some, length, refl, sym, ap, ◌∙◌, subst}
+use Rattle.std.proofs.Common.{◌≡◌, inl, inr, ℕ, ◌≤◌, Option, None, Some, length, refl, sym, ap, ◌∙◌, subst}
 use Rattle.std.specs.Prelude.{option_map}
 use Rattle.std.specs.FinMap as finite
 use Rattle.mt_tree.specs.declared.reply.Reply.{Reply}
@@ -61,11 +61,6 @@ held : (database : PrivateDatabase) (found : Option Tenant) → option_map (λ (
 held database None is = absurd (cc)
 held database (Some tenant) is = (tenant, refl, cc)
 
--- without a database nobody is there
-unheld : (found : Option Tenant) → option_map (λ (tenant : Tenant). tenant.database) found ≡ None → found ≡ None
-unheld None is = refl
-unheld (Some tenant) is = absurd (cc)
-
 abbrev view_at : State → Option PrivateDatabase → View
 view_at state database = record { tables = state.bases; extensions = state.extensions; database = database }
 
@@ -79,11 +74,14 @@ module _ (tells : TellsDatabases) (state : State) (entries : TableRows) (tenant 
   -- nobody is there
   pub unknown : finite.get state.tenants tenant ≡ None → (said : Said SimpleStmt) → IsAnswered state state entries entries (Statement tenant said) (Refused UnknownTenant)
   unknown none said service kept =
-      let view = seen_at service kept ∙ ap (λ (found : Option TenantEntry). view_at state (option_map (database_of (rows_in entries tenant)) found)) none in
-      (service, inl (record {
-        reply_is = sym (ap (λ (v : View). answer v said) view);
-        next_is = sym (ap (λ (v : View). put_database service tenant (next_database v said)) view);
-      }), kept)
+      let view = seen_at service kept ∙ ap (λ (found : Option TenantEntry). view_at state (option_map (database_of (rows_in entries tenant)) found)) none in (
+        service,
+        inl (record {
+          reply_is = sym (ap (λ (v : View). answer v said) view);
+          next_is = sym (ap (λ (v : View). put_database service tenant (next_database v said)) view);
+        }),
+        kept,
+      )
 
   module _ (entry : TenantEntry) (there : finite.get state.tenants tenant ≡ Some entry) where
     abbrev database : PrivateDatabase
@@ -103,20 +101,26 @@ module _ (tells : TellsDatabases) (state : State) (entries : TableRows) (tenant 
     pub unchanged : (said : Said SimpleStmt) (reply : Reply) → reply ≡ answer_said view database said → next_said view database said ≡ database → IsAnswered state state entries entries (Statement tenant said) reply
     unchanged said reply is same service kept =
         let own = tenant_is service kept in
-        let view = view_is service kept in
-        (service, inl (record {
-          reply_is = is ∙ sym (ap (λ (v : View). answer v said) view);
-          next_is =
-              sym (ap (λ (v : View). put_database service tenant (next_database v said)) view
-              ∙ ap (λ (of : PrivateDatabase). put_database service tenant (Some of)) (same ∙ sym own.2)
-              ∙ put_database-there service tenant own.0 own.1);
-        }), kept)
+        let view = view_is service kept in (
+          service,
+          inl (record {
+            reply_is = is ∙ sym (ap (λ (v : View). answer v said) view);
+            next_is =
+                sym (ap (λ (v : View). put_database service tenant (next_database v said)) view
+                ∙ ap (λ (of : PrivateDatabase). put_database service tenant (Some of)) (same ∙ sym own.2)
+                ∙ put_database-there service tenant own.0 own.1);
+          }),
+          kept,
+        )
 
     -- want of memory
     pub forgone : (left : TableRows) (said : Said SimpleStmt) → KeepsRows entries left → IsAnswered state state entries left (Statement tenant said) Memory
-    forgone left said same service kept =
-        (service, inr (record {
-          reply_is = refl;
-          next_is = refl;
-          yields = subst (λ (v : View). YieldsToMemory (answer v said)) (sym (view_is service kept)) (said_yields view database said);
-        }), kept_same state entries left service same kept)
+    forgone left said same service kept = (
+      service,
+      inr (record {
+        reply_is = refl;
+        next_is = refl;
+        yields = subst (λ (v : View). YieldsToMemory (answer v said)) (sym (view_is service kept)) (said_yields view database said);
+      }),
+      kept_same state entries left service same kept,
+    )

@@ -1,4 +1,3 @@
-pub mod Adding
 pub mod Counted
 pub mod Databases
 pub mod Forgone

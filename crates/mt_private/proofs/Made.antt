@@ -1,5 +1,5 @@
 -- The catalogue once a further row was made.
-use Rattle.std.proofs.Common.{◌≡◌, ◌≢◌, ⊎_elim, ℕ, ◌+◌, ◌≤◌, ◌^◌, cond, Option, None, Some, refl, sym, ap, ◌∙◌, subst, arith}
+use Rattle.std.proofs.Common.{◌≡◌, ⊎_elim, ℕ, ◌+◌, ◌≤◌, ◌^◌, cond, Option, None, Some, refl, sym, ap, ◌∙◌, subst, arith}
 use Rattle.std.specs.Prelude.{is_some, slice_get, slice_set}
 use Rattle.std.specs.FinMap as finite
 use Rattle.std.proofs.lemmas.Bool.{cases_eq}
@@ -9,9 +9,9 @@ use Rattle.mt_fold.specs.declared.fold.Placement.TheVariants.{Settled, Moving}
 use Rattle.mt_catalog.specs.declared.state.TenantEntry.{TenantEntry}
 use Rattle.mt_catalog.specs.declared.state.TenantTable.{TenantTable}
 use Rattle.mt_catalog.specs.State.{State, table_in, tenant_table}
-use Rattle.mt_catalog.specs.Rules.{IsCatalogue, IsTenant, IsTenantTable, MovesMade, quota_total}
+use Rattle.mt_catalog.specs.Rules.{IsCatalogue, IsTenant, IsTenantTable, MovesMade}
 use Rattle.mt_schema.specs.Refusals.{quota_of}
-use Rattle.mt_schema.specs.Steps.{with_table, with_tenant}
+use Rattle.mt_schema.specs.Steps.{with_table}
 use Rattle.mt_schema.proofs.Numbered.{changed_elsewhere, changed_there}
 use Rattle.mt_schema.proofs.Put.{new_tenant, put_tenant, table_at, tenant_at, with_tenant_there}
 use Rattle.mt_schema.proofs.Quotas.{quotas_put}

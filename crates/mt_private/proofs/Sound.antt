@@ -1,6 +1,5 @@
 -- Rows that are sound, and one that is to stand behind them.
-use Rattle.std.proofs.Common.{◌≡◌, ℕ, ◌+◌, ◌^◌, Bool, true, false, not, ◌&&◌, ◌||◌, cond, nat_lt, List, [], ◌∷◌, ◌++◌, map, refl, sym, ap, ◌∙◌}
-use Rattle.std.specs.Prelude.{filter}
+use Rattle.std.proofs.Common.{◌≡◌, ℕ, ◌+◌, ◌^◌, Bool, true, false, not, ◌&&◌, ◌||◌, nat_lt, List, [], ◌∷◌, ◌++◌, map, refl, sym, ap, ◌∙◌}
 use Rattle.std.specs.List.{list_any}
 use Rattle.std.specs.Ordering.{is_eq}
 use Rattle.std.proofs.lemmas.List.{map-append}
@@ -13,7 +12,6 @@ use Rattle.mt_tree.specs.declared.code.Code.TheVariants.{TextTooLong, NullNotAll
 use Rattle.mt_tree.specs.declared.row.MarkedRow.{MarkedRow}
 use Rattle.mt_tree.specs.declared.schema.Column.{Column}
 use Rattle.mt_tree.specs.Rows.{AreSound, has_duplicate_key, has_equal_keys, has_long_text, has_null, is_long, is_missing, key_of, some_value, visible_of}
-use Rattle.mt_schema.specs.Refusals.{first_holding}
 use Rattle.mt_private.specs.Seen.{row_tests}
 
 or_false : (b : Bool) → (b || false) ≡ b
@@ -82,4 +80,4 @@ module _ (columns : List Column) (rows : List MarkedRow) (values : List Value) w
       ∙ ap (λ b. seen_tests (has_long_text columns (rows ++ row ∷ [])) b repeated room made) (is_null_is ∙ sym (any_behind (λ (row : MarkedRow). some_value is_missing columns row.values) rows row sound.no_null))
       ∙ ap (λ b. seen_tests (has_long_text columns (rows ++ row ∷ [])) (has_null columns (rows ++ row ∷ [])) b room made) (repeated_is ∙ sym (duplicate_behind sound.no_duplicate_key))
       ∙ ap (λ b. (TextTooLong, has_long_text columns (rows ++ row ∷ [])) ∷ (NullNotAllowed, has_null columns (rows ++ row ∷ [])) ∷ (DuplicateKey, has_duplicate_key columns (rows ++ row ∷ [])) ∷ (QuotaFull, b) ∷ (RowNumbersUsedUp, nat_lt (2 ^ 63) (made + 1)) ∷ [])
-          (ap not room_is ∙ not_not (nat_lt quota (kept + 1)))
+      (ap not room_is ∙ not_not (nat_lt quota (kept + 1)))

@@ -77,7 +77,13 @@ fn checked(
     }
     let row = row_of(alloc, values)?;
     let has_room = has_room(lists, entry.tables.len(), entry.quota);
-    match row_refusal(columns, rows_at(lists, base), row.as_slice(), has_room, own.made) {
+    match row_refusal(
+        columns,
+        rows_at(lists, base),
+        row.as_slice(),
+        has_room,
+        own.made,
+    ) {
         None => Ok(Ok((base, row))),
         Some(code) => Ok(Err(code)),
     }
@@ -198,12 +204,7 @@ fn add_row(
 }
 
 /// Adds a visible row at the end of the list of that number, or leaves the rows of each.
-fn push_row(
-    alloc: Global,
-    lists: &mut TableRows,
-    base: usize,
-    row: Row,
-) -> Result<(), AllocError>
+fn push_row(alloc: Global, lists: &mut TableRows, base: usize, row: Row) -> Result<(), AllocError>
     ensures ok { OnOk result ((other : ℕ) → list_at lists.new other ≡ cond (nat_eq other base) (list_at lists.old other ++ record { visible = true; values = row } ∷ []) (list_at lists.old other)) }
     ensures err { OnErr result ((other : ℕ) → list_at lists.new other ≡ list_at lists.old other) }
 {

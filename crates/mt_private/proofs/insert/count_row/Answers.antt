@@ -21,28 +21,28 @@ count_in-requires c =
 pub returns : goal.returns
 returns c = elim c.match-get_mut.branch [
   | in-Some w ↦
-    let state : State = c.args.catalog.now in
-    let old = c.catalog.inside.tenants in
-    let changed : TenantEntry = with_table c.args.base one_more_made w.in-Some.entry.now in
-    let there : finite.get state.tenants c.args.tenant ≡ Some w.in-Some.entry.now =
-    sym (w.in-Some.ensures.value ∙ sym (got_looked old.entries c.args.tenant) ∙ ap (λ (of : State). finite.get of.tenants c.args.tenant) c.catalog.view_is) in
-    let written = c.get_mut.follows.holds w.count_in.new.entry in
-    let some : IsSome _ = subst (λ (o : Option TenantEntry). IsSome o) w.in-Some.ensures.value (search rules) in
-    let looked = (written.3 some).0 in
-    let tenants =
-    entry_put old.entries (c.get_mut.follows.lender w.count_in.new.entry).entries c.args.tenant w.count_in.new.entry looked
-    ∙ ap (finite.insert (finite.from_entries old.entries) c.args.tenant) w.count_in.ensures
-    ∙ ap (λ (of : State). finite.insert of.tenants c.args.tenant changed) c.catalog.view_is in
-    ap (λ inside. record { bases = inside.bases; extensions = inside.extensions; tenants = finite.from_entries inside.tenants.entries }) w.catalog-inside-is
-    ∙ same_state _ (put_tenant state c.args.tenant changed) (ap (λ (of : State). of.bases) c.catalog.view_is) (ap (λ (of : State). of.extensions) c.catalog.view_is) tenants
-    ∙ sym (made_there state c.args.tenant c.args.base w.in-Some.entry.now there)
+      let state : State = c.args.catalog.now in
+      let old = c.catalog.inside.tenants in
+      let changed : TenantEntry = with_table c.args.base one_more_made w.in-Some.entry.now in
+      let there : finite.get state.tenants c.args.tenant ≡ Some w.in-Some.entry.now =
+      sym (w.in-Some.ensures.value ∙ sym (got_looked old.entries c.args.tenant) ∙ ap (λ (of : State). finite.get of.tenants c.args.tenant) c.catalog.view_is) in
+      let written = c.get_mut.follows.holds w.count_in.new.entry in
+      let some : IsSome _ = subst (λ (o : Option TenantEntry). IsSome o) w.in-Some.ensures.value (search rules) in
+      let looked = (written.3 some).0 in
+      let tenants =
+      entry_put old.entries (c.get_mut.follows.lender w.count_in.new.entry).entries c.args.tenant w.count_in.new.entry looked
+      ∙ ap (finite.insert (finite.from_entries old.entries) c.args.tenant) w.count_in.ensures
+      ∙ ap (λ (of : State). finite.insert of.tenants c.args.tenant changed) c.catalog.view_is in
+      ap (λ inside. record { bases = inside.bases; extensions = inside.extensions; tenants = finite.from_entries inside.tenants.entries }) w.catalog-inside-is
+      ∙ same_state _ (put_tenant state c.args.tenant changed) (ap (λ (of : State). of.bases) c.catalog.view_is) (ap (λ (of : State). of.extensions) c.catalog.view_is) tenants
+      ∙ sym (made_there state c.args.tenant c.args.base w.in-Some.entry.now there)
   | in_default w ↦
-    let state : State = c.args.catalog.now in
-    let old = c.catalog.inside.tenants in
-    let none : finite.get state.tenants c.args.tenant ≡ None =
-    sym (w.in_default.ensures.value ∙ sym (got_looked old.entries c.args.tenant) ∙ ap (λ (of : State). finite.get of.tenants c.args.tenant) c.catalog.view_is) in
-    let tenants = ap (λ map. finite.from_entries map.entries) c.get_mut.follows.holds-at-none ∙ ap (λ (of : State). of.tenants) c.catalog.view_is in
-    ap (λ inside. record { bases = inside.bases; extensions = inside.extensions; tenants = finite.from_entries inside.tenants.entries }) w.catalog-inside-is
-    ∙ same_state _ state (ap (λ (of : State). of.bases) c.catalog.view_is) (ap (λ (of : State). of.extensions) c.catalog.view_is) tenants
-    ∙ sym (made_nowhere state c.args.tenant c.args.base none)
+      let state : State = c.args.catalog.now in
+      let old = c.catalog.inside.tenants in
+      let none : finite.get state.tenants c.args.tenant ≡ None =
+      sym (w.in_default.ensures.value ∙ sym (got_looked old.entries c.args.tenant) ∙ ap (λ (of : State). finite.get of.tenants c.args.tenant) c.catalog.view_is) in
+      let tenants = ap (λ map. finite.from_entries map.entries) c.get_mut.follows.holds-at-none ∙ ap (λ (of : State). of.tenants) c.catalog.view_is in
+      ap (λ inside. record { bases = inside.bases; extensions = inside.extensions; tenants = finite.from_entries inside.tenants.entries }) w.catalog-inside-is
+      ∙ same_state _ state (ap (λ (of : State). of.bases) c.catalog.view_is) (ap (λ (of : State). of.extensions) c.catalog.view_is) tenants
+      ∙ sym (made_nowhere state c.args.tenant c.args.base none)
 ]

@@ -48,14 +48,14 @@ returns-in-Ok c =
     let adds = subst (λ (values : List Value). AddsRow c.args.tenant c.in-Ok-Ok.base values entries c.insert_row.new.rows.entries) checked.2 c.in-Ok.ensures.added in
     subst (λ (of : State). IsAnswered c.args.catalog.now of entries c.insert_row.new.rows.entries (Statement c.args.tenant (Says (Insert c.args.table.now c.args.values))) (Text c.in-Ok.text)) (sym c.in-Ok.ensures.counted)
     (added c.parts_tell_the_service.ensures.databases c.inserted_rows_are_parts.ensures c.args.catalog.now entries c.insert_row.new.rows.entries c.args.tenant c.in-Ok-Ok.base c.in-Some.entry.now there
-      own.0 own.1 c.args.table.now c.args.values checked.1 checked.0 adds c.in-Ok.text c.in-Ok.ensures.reply)
+    own.0 own.1 c.args.table.now c.args.values checked.1 checked.0 adds c.in-Ok.text c.in-Ok.ensures.reply)
 
 pub returns-in-Err-insert_row : goal.returns-in-Err-insert_row
 returns-in-Err-insert_row c =
     subst (λ (of : State). IsAnswered c.args.catalog.now of c.args.rows.now.entries c.insert_row.new.rows.entries (Statement c.args.tenant (Says (Insert c.args.table.now c.args.values))) Memory)
     (sym c.in-Err-insert_row.ensures.same_catalog)
     (forgone c.parts_tell_the_service.ensures.databases c.args.catalog.now c.args.rows.now.entries c.args.tenant c.in-Some.entry.now (sym c.in-Some.ensures)
-      c.insert_row.new.rows.entries (Says (Insert c.args.table.now c.args.values)) c.in-Err-insert_row.ensures.same_rows)
+    c.insert_row.new.rows.entries (Says (Insert c.args.table.now c.args.values)) c.in-Err-insert_row.ensures.same_rows)
 
 pub returns-in-Ok-Err : goal.returns-in-Ok-Err
 returns-in-Ok-Err c =

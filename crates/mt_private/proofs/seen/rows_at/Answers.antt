@@ -1,5 +1,5 @@
 -- A number past the lists is that of no rows.
-use Rattle.std.proofs.Common.{◌≡◌, ℕ, List, [], Option, None, Some, slice_get, slice_index_or, unwrap_or, sym, ap, ◌∙◌}
+use Rattle.std.proofs.Common.{sym, ◌∙◌}
 use Rattle.mt_private.proofs.Lists.{at_got, at_none}
 use Rattle.mt_private.proofs.seen.rows_at.Goals as goal
 

@@ -30,42 +30,50 @@ said_by text found result is says = subst (ServesAs (λ said. IsStatementSaid te
 
 pub returns-then-is_none : goal.returns-then-is_none
 returns-then-is_none c =
-    let said = c.each_text_says_something.ensures.statement c.args.text.now in
-    (said.0, said.1, unknown c.parts_tell_the_service.ensures.databases c.args.catalog.now c.args.rows.now.entries c.args.tenant
-      (none_of c.tenant_of.result (finite.get c.args.catalog.now.tenants c.args.tenant) c.tenant_of.ensures (c.is_none.ensures ∙ ap not c.if-is_none.true)) said.0)
+    let said = c.each_text_says_something.ensures.statement c.args.text.now in (
+      said.0,
+      said.1,
+      unknown c.parts_tell_the_service.ensures.databases c.args.catalog.now c.args.rows.now.entries c.args.tenant
+          (none_of c.tenant_of.result (finite.get c.args.catalog.now.tenants c.args.tenant) c.tenant_of.ensures (c.is_none.ensures ∙ ap not c.if-is_none.true)) said.0,
+    )
 
 pub returns-in-Ok-Insert : goal.returns-in-Ok-Insert
-returns-in-Ok-Insert c =
-    (Says (Insert c.in-Ok-Insert.table c.in-Ok-Insert.values),
-     said_by c.args.text.now (Ok c.in-Ok-Insert.field-0) (Ok (Insert c.in-Ok-Insert.table c.in-Ok-Insert.values)) (ap Ok c.in-Ok-Insert.field-0-is) c.in-Ok-Insert.ensures,
-     c.insert.ensures)
+returns-in-Ok-Insert c = (
+  Says (Insert c.in-Ok-Insert.table c.in-Ok-Insert.values),
+  said_by c.args.text.now (Ok c.in-Ok-Insert.field-0) (Ok (Insert c.in-Ok-Insert.table c.in-Ok-Insert.values)) (ap Ok c.in-Ok-Insert.field-0-is) c.in-Ok-Insert.ensures,
+  c.insert.ensures,
+)
 
 pub returns-in-Ok-Select : goal.returns-in-Ok-Select
-returns-in-Ok-Select c =
-    (Says (Select c.in-Ok-Select.table c.in-Ok-Select.columns),
-     said_by c.args.text.now (Ok c.in-Ok-Select.field-0) (Ok (Select c.in-Ok-Select.table c.in-Ok-Select.columns)) (ap Ok c.in-Ok-Select.field-0-is) c.in-Ok-Select.ensures,
-     c.select.ensures)
+returns-in-Ok-Select c = (
+  Says (Select c.in-Ok-Select.table c.in-Ok-Select.columns),
+  said_by c.args.text.now (Ok c.in-Ok-Select.field-0) (Ok (Select c.in-Ok-Select.table c.in-Ok-Select.columns)) (ap Ok c.in-Ok-Select.field-0-is) c.in-Ok-Select.ensures,
+  c.select.ensures,
+)
 
 pub returns-in-Err-Unread : goal.returns-in-Err-Unread
 returns-in-Err-Unread c =
-    let kept = entry_of c.tenant_of.result (finite.get c.args.catalog.now.tenants c.args.tenant) c.tenant_of.ensures (c.is_none.ensures ∙ ap not c.if-is_none.false) in
-    (Unread,
-     said_by c.args.text.now (Err c.in-Err-Unread.field-0) (Err fault.Unread) (ap Err c.in-Err-Unread.field-0-is) c.in-Err-Unread.ensures,
-     unchanged c.parts_tell_the_service.ensures.databases c.args.catalog.now c.args.rows.now.entries c.args.tenant kept.0 kept.1 Unread (Refused code.Syntax) refl refl)
+    let kept = entry_of c.tenant_of.result (finite.get c.args.catalog.now.tenants c.args.tenant) c.tenant_of.ensures (c.is_none.ensures ∙ ap not c.if-is_none.false) in (
+      Unread,
+      said_by c.args.text.now (Err c.in-Err-Unread.field-0) (Err fault.Unread) (ap Err c.in-Err-Unread.field-0-is) c.in-Err-Unread.ensures,
+      unchanged c.parts_tell_the_service.ensures.databases c.args.catalog.now c.args.rows.now.entries c.args.tenant kept.0 kept.1 Unread (Refused code.Syntax) refl refl,
+    )
 
 pub returns-in-Err-Outside : goal.returns-in-Err-Outside
 returns-in-Err-Outside c =
-    let kept = entry_of c.tenant_of.result (finite.get c.args.catalog.now.tenants c.args.tenant) c.tenant_of.ensures (c.is_none.ensures ∙ ap not c.if-is_none.false) in
-    (Outside,
-     said_by c.args.text.now (Err c.in-Err-Outside.field-0) (Err fault.Outside) (ap Err c.in-Err-Outside.field-0-is) c.in-Err-Outside.ensures,
-     unchanged c.parts_tell_the_service.ensures.databases c.args.catalog.now c.args.rows.now.entries c.args.tenant kept.0 kept.1 Outside (Refused code.NumberOutside64Bits) refl refl)
+    let kept = entry_of c.tenant_of.result (finite.get c.args.catalog.now.tenants c.args.tenant) c.tenant_of.ensures (c.is_none.ensures ∙ ap not c.if-is_none.false) in (
+      Outside,
+      said_by c.args.text.now (Err c.in-Err-Outside.field-0) (Err fault.Outside) (ap Err c.in-Err-Outside.field-0-is) c.in-Err-Outside.ensures,
+      unchanged c.parts_tell_the_service.ensures.databases c.args.catalog.now c.args.rows.now.entries c.args.tenant kept.0 kept.1 Outside (Refused code.NumberOutside64Bits) refl refl,
+    )
 
 pub returns-in-Err-Unserved : goal.returns-in-Err-Unserved
 returns-in-Err-Unserved c =
-    let kept = entry_of c.tenant_of.result (finite.get c.args.catalog.now.tenants c.args.tenant) c.tenant_of.ensures (c.is_none.ensures ∙ ap not c.if-is_none.false) in
-    (Unserved,
-     said_by c.args.text.now (Err c.in-Err-Unserved.field-0) (Err fault.Unserved) (ap Err c.in-Err-Unserved.field-0-is) c.in-Err-Unserved.ensures,
-     unchanged c.parts_tell_the_service.ensures.databases c.args.catalog.now c.args.rows.now.entries c.args.tenant kept.0 kept.1 Unserved (Refused code.NotServed) refl refl)
+    let kept = entry_of c.tenant_of.result (finite.get c.args.catalog.now.tenants c.args.tenant) c.tenant_of.ensures (c.is_none.ensures ∙ ap not c.if-is_none.false) in (
+      Unserved,
+      said_by c.args.text.now (Err c.in-Err-Unserved.field-0) (Err fault.Unserved) (ap Err c.in-Err-Unserved.field-0-is) c.in-Err-Unserved.ensures,
+      unchanged c.parts_tell_the_service.ensures.databases c.args.catalog.now c.args.rows.now.entries c.args.tenant kept.0 kept.1 Unserved (Refused code.NotServed) refl refl,
+    )
 
 pub returns-in-Err-Memory : goal.returns-in-Err-Memory
 returns-in-Err-Memory c =
