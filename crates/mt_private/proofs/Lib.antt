@@ -9,5 +9,6 @@ pub mod Lists
 pub mod Made
 pub mod Printing
 pub mod Sound
+pub mod StepAnswers
 pub mod Stepped
 pub mod Sizes
