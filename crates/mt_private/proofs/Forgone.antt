@@ -15,17 +15,17 @@ use Rattle.mt_model.specs.Said.{Said, Unread, Outside, Unserved, Says}
 use Rattle.mt_model.specs.Service.{View}
 
 -- each code of the tests yields
-abbrev EachYields : List (Code × Bool) → Type 0
+abbrev pub EachYields : List (Code × Bool) → Type 0
 EachYields [] = Unit {0}
 EachYields (test ∷ tests) = YieldsToMemory (Refused test.0) × EachYields tests
 
 -- what a refusal or none is answered
-abbrev reply_of : List ℕ → Option Code → Reply
+abbrev pub reply_of : List ℕ → Option Code → Reply
 reply_of text None = Text text
 reply_of text (Some code) = Refused code
 
 -- so the first refusal does, or the reply where there is none
-tests_yield : (tests : List (Code × Bool)) (text : List ℕ) → EachYields tests → YieldsToMemory (reply_of text (first_holding tests))
+pub tests_yield : (tests : List (Code × Bool)) (text : List ℕ) → EachYields tests → YieldsToMemory (reply_of text (first_holding tests))
 tests_yield [] text each = tt
 tests_yield ((code, true) ∷ tests) text each = each.0
 tests_yield ((code, false) ∷ tests) text each = tests_yield tests text each.1

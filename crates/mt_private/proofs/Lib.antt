@@ -8,8 +8,7 @@ pub mod Keeping
 pub mod Lists
 pub mod Made
 pub mod Printing
-pub mod Service
 pub mod Sound
-pub mod Yields
-pub mod Steps
+pub mod StepAnswers
+pub mod Stepped
 pub mod Sizes

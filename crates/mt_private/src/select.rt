@@ -19,7 +19,7 @@ use crate::seen::{base_number, columns_in, lists_of, rows_at, tenant_of};
 use mt_catalog::{Catalog, TenantEntry};
 use mt_list::{Duplicate, List};
 use mt_model::parts_tell_the_service;
-use mt_tree::{Code, Column, Columns, MarkedRow, Names, Reply, ReplyText};
+use mt_tree::{Code, Column, MarkedRow, Names, Reply, ReplyText};
 use mt_value::{Row, Rows, Str, Value, sort_rows};
 use std::alloc::{AllocError, Global};
 

@@ -1,8 +1,9 @@
 -- The tests are those of the tenant's database.
-use Rattle.std.proofs.Common.{length, sym, ap, ◌∙◌}
+use Rattle.std.proofs.Common.{length, sym, ap, ◌∙◌, subst}
 use Rattle.std.proofs.lemmas.List.{length-map}
 use Rattle.mt_catalog.specs.State.{extended_columns}
 use Rattle.mt_model.specs.Tables.{fit_columns, value_of}
+use Rattle.mt_private.specs.Kept.{IsKeptTable}
 use Rattle.mt_private.specs.Seen.{kept_in}
 use Rattle.mt_private.proofs.Databases.{fit_length, fitted, misfit}
 use Rattle.mt_private.proofs.insert.checked.Goals as goal
@@ -12,6 +13,13 @@ returns-then-not-fit_columns c =
     let columns = c.as_slice-columns.ensures ∙ c.in_ok-columns.ensures ∙ ap (extended_columns c.args.catalog.now c.in-Some.base) c.as_slice.ensures in
     let fits = sym (c.fit_columns.ensures ∙ ap (λ of. fit_columns of c.as_slice-2.result.now) columns ∙ ap (fit_columns (extended_columns c.args.catalog.now c.in-Some.base c.get-own.result.now.extended)) c.as_slice-2.ensures) ∙ c.if-not-fit_columns.true in
     misfit c.args.catalog.now c.args.entry.now c.args.lists.now c.in-Some.base c.get-own.result.now c.get-own.ensures c.args.table.now c.args.values (sym c.in-Some.ensures) fits
+
+pub row_refusal-requires-clause-kept : goal.row_refusal-requires-clause-kept
+row_refusal-requires-clause-kept c =
+    let columns = c.as_slice-columns.ensures ∙ c.in_ok-columns.ensures ∙ ap (extended_columns c.args.catalog.now c.in-Some.base) c.as_slice.ensures in
+    let kept = c.requires.tables c.in-Some.base c.get-own.result.now c.get-own.ensures in
+    subst (λ of. IsKeptTable of c.rows_at.result.now) (sym columns)
+    (subst (IsKeptTable (extended_columns c.args.catalog.now c.in-Some.base c.get-own.result.now.extended)) (sym c.rows_at.ensures) kept)
 
 pub row_refusal-requires-clause-whole : goal.row_refusal-requires-clause-whole
 row_refusal-requires-clause-whole c =
