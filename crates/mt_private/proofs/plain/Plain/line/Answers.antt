@@ -16,35 +16,35 @@ returns-in_default-from_utf8 c = absurd (c.in_default-from_utf8.ensures.cases.0 
 pub returns-in-Admin : goal.returns-in-Admin
 returns-in-Admin c = λ service kept.
     let says = c.command.ensures in
-    let text : c.in-Ok.text.now ≡ drop c.in-Some.tagged.from c.args.line.now = c.in-Ok.ensures.cases.0 ∙ take_rest c.args.line.now c.in-Some.tagged.from in
-    let done = says.2 service kept in (
+    let answered = says.2 service kept in
+    let text : c.in-Ok.text.now ≡ drop c.in-Some.tagged.from c.args.line.now = c.in-Ok.ensures.cases.0 ∙ take_rest c.args.line.now c.in-Some.tagged.from in (
       Command says.0,
-      done.0,
+      answered.0,
       record {
         said = record {
           text = drop c.in-Some.tagged.from c.args.line.now;
           tagged = subst (λ (who : Who). HasTag c.args.line.now who (drop c.in-Some.tagged.from c.args.line.now)) c.in-Admin.is c.in-Some.ensures.found.1;
           says = subst (λ (text : List ℕ). IsCommandSaid text says.0) text says.1;
         };
-        outcome = done.1;
+        outcome = answered.1;
       },
-      done.2,
+      answered.2,
     )
 
 pub returns-in-Tenant : goal.returns-in-Tenant
 returns-in-Tenant c = λ service kept.
     let says = c.statement.ensures in
-    let text : c.in-Ok.text.now ≡ drop c.in-Some.tagged.from c.args.line.now = c.in-Ok.ensures.cases.0 ∙ take_rest c.args.line.now c.in-Some.tagged.from in
-    let done = says.2 service kept in (
+    let answered = says.2 service kept in
+    let text : c.in-Ok.text.now ≡ drop c.in-Some.tagged.from c.args.line.now = c.in-Ok.ensures.cases.0 ∙ take_rest c.args.line.now c.in-Some.tagged.from in (
       Statement c.in-Tenant.tenant says.0,
-      done.0,
+      answered.0,
       record {
         said = record {
           text = drop c.in-Some.tagged.from c.args.line.now;
           tagged = subst (λ (who : Who). HasTag c.args.line.now who (drop c.in-Some.tagged.from c.args.line.now)) c.in-Tenant.is c.in-Some.ensures.found.1;
           says = subst (λ (text : List ℕ). IsStatementSaid text says.0) text says.1;
         };
-        outcome = done.1;
+        outcome = answered.1;
       },
-      done.2,
+      answered.2,
     )
