@@ -1,6 +1,7 @@
 pub mod Commands
 pub mod Counted
 pub mod Databases
+pub mod First
 pub mod Forgone
 pub mod Found
 pub mod Inserted

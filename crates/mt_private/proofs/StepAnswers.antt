@@ -16,9 +16,9 @@ use Rattle.mt_model.specs.Command.{applied, command_refusal}
 use Rattle.mt_model.specs.Parts.{ConsistsOf, KeptRows, named_tenant, rows_after}
 use Rattle.mt_model.specs.Request.{Command}
 use Rattle.mt_model.specs.Run.{YieldsToMemory}
-use Rattle.mt_model.specs.Said.{Says}
+use Rattle.mt_model.specs.Said.{Outside, Said, Says, Unread, Unserved}
 use Rattle.mt_model.specs.Service.{Service, catalogue_of, kept_of}
-use Rattle.mt_model.specs.Step.{Stepped, command_step, refused}
+use Rattle.mt_model.specs.Step.{Stepped, command_said, command_step, refused}
 use Rattle.mt_private.specs.Kept.{AreKept, IsKeptTable, TableRows, rows_in}
 use Rattle.mt_private.specs.Outcome.{ComesTo, IsAnswered}
 use Rattle.mt_private.specs.Seen.{KeepsRows}
@@ -115,3 +115,10 @@ module _ (tells_kept : TellsKept) (tells : TellsRefusals) (state : State) (entri
       reply_is = sym (ap (λ found. (by_refusal service step found).reply) accepted);
       next_is = sym (ap (λ found. (by_refusal service step found).next) accepted);
     }), kept_after)
+
+-- and in the place of each to the administrator's line
+pub said_yields : (service : Service) (said : Said AdminCmd) → YieldsToMemory (command_said service said).reply
+said_yields service Unread = tt
+said_yields service Outside = tt
+said_yields service Unserved = tt
+said_yields service (Says command) = step_yields service command

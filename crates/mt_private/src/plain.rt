@@ -12,6 +12,7 @@ use crate::statement::statement;
 use indexmap::IndexMap;
 use mt_catalog::Catalog;
 use mt_list::List;
+use mt_model::empty_services_have_no_parts;
 use mt_script::split_tag;
 use mt_tree::{Code, Reply, Who};
 use std::alloc::Global;
@@ -30,6 +31,7 @@ impl Plain {
     pub fn new(alloc: Global) -> Plain
         ensures { IsKept result empty_service }
     {
+        empty_services_have_no_parts();
         Plain {
             alloc,
             catalog: Catalog {
