@@ -31,8 +31,8 @@ answered_in_memory rules line reply kept keeps machine told only_now answers tel
     let answered : AnswersFrom rules line reply keeps service = answers service (is_kept.content tells) in
     record {
       request = answered.0;
-      next = answered.1.0;
-      answers = answered.1.1.0;
-      kept = keeps_in_memory (keeps answered.1.0) machine told answered.1.1.1;
-      leaves = leaves_itself machine (LaidEither on_any_disk service answered.1.0) told only_now (λ _ _ _. inl tt);
+      next = answered.1;
+      answers = answered.2;
+      kept = keeps_in_memory (keeps answered.1) machine told answered.3;
+      leaves = leaves_itself machine (LaidEither on_any_disk service answered.1) told only_now (λ _ _ _. inl tt);
     }

@@ -15,9 +15,9 @@ returns-clause-does g c =
 pub returns-clause-sound : goal.returns-clause-sound
 returns-clause-sound g c =
     let answered : AnswersFrom service_rules (Text c.args.line.now) c.line.result (IsKept c.line.new.self) c.requires.sound.0 = c.line.ensures c.requires.sound.0 c.requires.sound.1 in
-    (answered.1.0, answered.1.1.1)
+    (answered.1, answered.3)
 
 pub returns-clause-ready : goal.returns-clause-ready
 returns-clause-ready g c =
     let answered : AnswersFrom service_rules (Text c.args.line.now) c.line.result (IsKept c.line.new.self) c.requires.sound.0 = c.line.ensures c.requires.sound.0 c.requires.sound.1 in
-    (answered.1.0, keeps_in_memory (IsKept c.line.new.self answered.1.0) (g.M.Machine.meaning c.args.machine.now) (g.met.M.Machine.moments_told c.args.machine.now) answered.1.1.1)
+    (answered.1, keeps_in_memory (IsKept c.line.new.self answered.1) (g.M.Machine.meaning c.args.machine.now) (g.met.M.Machine.moments_told c.args.machine.now) answered.3)
