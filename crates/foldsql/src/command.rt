@@ -14,7 +14,7 @@ use crate::tenants::Tenants;
 use mt_machine::{Machine, Source};
 use mt_model::isolation;
 use mt_private::Plain;
-use std::alloc::{AllocError, Global};
+use std::alloc::Global;
 use std::thread::Threads;
 
 // Whether the words are this one.
@@ -27,7 +27,7 @@ fn is_word(words: &[String], word: &str) -> bool
     }
 }
 
-// A run of the whole service, kept as plain lists.
+// A run of the whole service, kept as a catalogue and plain lists of rows.
 fn run_plain<M: Machine, S: Source>(alloc: Global, source: &mut S, machine: &mut M) -> Status
     ensures serves { ServesTenants result (M.meaning machine.old) (M.meaning machine.new) (S.supply source.old) (S.supply source.new) }
     ensures areas { KeepsAreas (M.meaning machine.old) (M.meaning machine.new) }
@@ -36,10 +36,7 @@ fn run_plain<M: Machine, S: Source>(alloc: Global, source: &mut S, machine: &mut
     ensures beneath { M.beneath machine.old machine.new }
 {
     isolation();
-    match Plain::new(alloc) {
-        Ok(mut plain) => run(alloc, &mut plain, source, machine),
-        Err(AllocError) => finish(Status::NoMemory, machine),
-    }
+    run(alloc, &mut Plain::new(alloc), source, machine)
 }
 
 /// Does what the words after the program's name ask for, and answers the status that the process

@@ -28,16 +28,21 @@ pub(crate) trait Engine {
     /// What a stop may leave beside a disk that reads so.
     ghost may_leave: { Self → Disk → Disk → Type 0 };
 
+    /// What is so of it on any machine, also on one that tells nothing.
+    ghost sound: { Self → Type 0 };
+
     /// Whether it leaves the machine alone: no call on it at all.
     ghost leaves_disk: { Bool };
 
     /// Answers a line that is not too long and not silent. It puts nothing out. After `Failed`, a fault of
     /// the disk, a stop leaves the service before the line or the one behind it.
     fn line<M: Machine>(&mut self, machine: &mut M, line: &[u8]) -> Result<Reply, Failed>
-        requires { (service : Service) × Keeps (holds self.old service) (may_leave self.old) (M.meaning machine.old) }
+        requires sound { sound self.old }
+        requires ready { (service : Service) × Keeps (holds self.old service) (may_leave self.old) (M.meaning machine.old) }
         ensures does { IsTrue (M.meaning machine.new).tells → (service : Service) → Keeps (holds self.old service) (may_leave self.old) (M.meaning machine.old)
             → DoesLine rules laid (λ next. Keeps (holds self.new next) (may_leave self.new) (M.meaning machine.new)) result (Text line.now) service (M.meaning machine.old) (M.meaning machine.new) }
         ensures ready { OnOk result ((service : Service) × Keeps (holds self.new service) (may_leave self.new) (M.meaning machine.new)) }
+        ensures sound { OnOk result (sound self.new) }
         ensures quiet { Leaves (λ _. Unit {0}) (M.meaning machine.old) (M.meaning machine.new) }
         ensures alone { IsTrue leaves_disk → IsOk result × (machine.new ≡ machine.old) }
         ensures cause { IsErr result → DiskMayFail (M.meaning machine.old) (M.meaning machine.new) }

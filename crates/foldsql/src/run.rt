@@ -23,7 +23,8 @@ pub(crate) fn run<E: Engine, M: Machine, S: Source>(
     source: &mut S,
     machine: &mut M,
 ) -> Status
-    requires { (first : Service) × Keeps (E.holds engine.old first) (E.may_leave engine.old) (M.meaning machine.old) }
+    requires sound { E.sound engine.old }
+    requires ready { (first : Service) × Keeps (E.holds engine.old first) (E.may_leave engine.old) (M.meaning machine.old) }
     ensures serves { (first : Service) → Keeps (E.holds engine.old first) (E.may_leave engine.old) (M.meaning machine.old)
         → Serves E.rules E.laid first result (M.meaning machine.old) (M.meaning machine.new) (S.supply source.old) (S.supply source.new) }
     ensures cause { HasStatusCause result (M.meaning machine.old) (M.meaning machine.new) (S.supply source.old) (S.supply source.new) }
@@ -59,7 +60,8 @@ fn serve<E: Engine, M: Machine, S: Source>(
     source: &mut S,
     machine: &mut M,
 ) -> Status
-    requires { (first : Service) × Keeps (E.holds engine.old first) (E.may_leave engine.old) (M.meaning machine.old) }
+    requires sound { E.sound engine.old }
+    requires ready { (first : Service) × Keeps (E.holds engine.old first) (E.may_leave engine.old) (M.meaning machine.old) }
     ensures answers { (first : Service) → Keeps (E.holds engine.old first) (E.may_leave engine.old) (M.meaning machine.old)
         → AnswersInput E.rules E.laid first result (M.meaning machine.old) (M.meaning machine.new) (S.supply source.old) (S.supply source.new) }
     ensures counts { MachineCounts (Some result) (M.meaning machine.old) (M.meaning machine.new) }

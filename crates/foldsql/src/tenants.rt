@@ -47,6 +47,8 @@ impl Engine for Tenants {
 
     ghost may_leave = { λ _ _ _. Unit {0} };
 
+    ghost sound = { λ _. Unit {0} };
+
     ghost leaves_disk = { true };
 
     fn line<M: Machine>(&mut self, machine: &mut M, line: &[u8]) -> Result<Reply, Failed> {

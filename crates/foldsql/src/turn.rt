@@ -21,11 +21,13 @@ pub(crate) fn turn<E: Engine, M: Machine, S: Source>(
     engine: &mut E,
     machine: &mut M,
 ) -> Option<Status>
-    requires { (service : Service) × Keeps (E.holds engine.old service) (E.may_leave engine.old) (M.meaning machine.old) }
+    requires sound { E.sound engine.old }
+    requires ready { (service : Service) × Keeps (E.holds engine.old service) (E.may_leave engine.old) (M.meaning machine.old) }
     ensures turns { Turns E.rules E.laid (λ service. Keeps (E.holds engine.old service) (E.may_leave engine.old) (M.meaning machine.old))
         (λ service. Keeps (E.holds engine.new service) (E.may_leave engine.new) (M.meaning machine.new))
         result reader.old reader.new (S.supply source.old) (S.supply source.new) (M.meaning machine.old) (M.meaning machine.new) }
     ensures goes_on { IfNone result (reader.new.budget + length reader.new.held < reader.old.budget + length reader.old.held) }
+    ensures sound { IfNone result (E.sound engine.new) }
     ensures ready { IfNone result ((service : Service) × Keeps (E.holds engine.new service) (E.may_leave engine.new) (M.meaning machine.new)) }
     ensures counts { MachineCounts result (M.meaning machine.old) (M.meaning machine.new) }
     ensures takes { Counts (result ≡ Some Status.SourceFault) (S.supply source.old).faults (S.supply source.new).faults }
@@ -44,10 +46,12 @@ pub(crate) fn turn<E: Engine, M: Machine, S: Source>(
 
 // Answers a line that is not too long; or the status that the run ends with. A silent line gets nothing.
 fn answer<E: Engine, M: Machine>(engine: &mut E, line: &[u8], machine: &mut M) -> Option<Status>
-    requires { (service : Service) × Keeps (E.holds engine.old service) (E.may_leave engine.old) (M.meaning machine.old) }
+    requires sound { E.sound engine.old }
+    requires ready { (service : Service) × Keeps (E.holds engine.old service) (E.may_leave engine.old) (M.meaning machine.old) }
     ensures answers { LineOutcome E.rules E.laid (λ service. Keeps (E.holds engine.old service) (E.may_leave engine.old) (M.meaning machine.old))
         (λ service. Keeps (E.holds engine.new service) (E.may_leave engine.new) (M.meaning machine.new))
         result (Text line.now) (M.meaning machine.old) (M.meaning machine.new) }
+    ensures sound { IfNone result (E.sound engine.new) }
     ensures ready { IfNone result ((service : Service) × Keeps (E.holds engine.new service) (E.may_leave engine.new) (M.meaning machine.new)) }
     ensures counts { MachineCounts result (M.meaning machine.old) (M.meaning machine.new) }
     ensures areas { IsTrue E.leaves_disk → KeepsAreas (M.meaning machine.old) (M.meaning machine.new) }

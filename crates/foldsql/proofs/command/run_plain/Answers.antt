@@ -1,25 +1,17 @@
--- The tenants of a run are isolated, also where it does not begin and has no lines.
-use Rattle.std.proofs.Common.{◌≡◌, refl}
-use Rattle.mt_model.specs.Isolation.{service_rules}
+-- The run begins with the empty service, and its tenants are isolated.
 use Rattle.mt_model.specs.Service.{empty_service}
-use Rattle.foldsql.specs.Moments.{on_any_disk}
-use Rattle.foldsql.specs.declared.status.Status.TheVariants.{NoMemory, SourceFault}
-use Rattle.foldsql.proofs.Counting.{counts_stand}
-use Rattle.foldsql.proofs.Engines.{keeps_one}
-use Rattle.foldsql.proofs.Served.{served, tenants_served}
-use Rattle.foldsql.proofs.Standing.{not_begun}
-use Rattle.foldsql.proofs.Turning.{stops_here}
+use Rattle.mt_private.specs.Kept.{IsKept}
+use Rattle.foldsql.proofs.Engines.{keeps_in_memory}
+use Rattle.foldsql.proofs.Served.{tenants_served}
 use Rattle.foldsql.proofs.command.run_plain.Goals as goal
 
-pub run-requires : goal.run-requires
-run-requires g c = (c.in-Ok.plain, keeps_one c.in-Ok.plain (g.M.Machine.meaning c.args.machine.now) (g.met.M.Machine.moments_told c.args.machine.now))
+pub run-requires-sound : goal.run-requires-sound
+run-requires-sound g c = (empty_service, c.new.ensures)
 
-pub returns-in-Err-clause-serves : goal.returns-in-Err-clause-serves
-returns-in-Err-clause-serves g c =
-    let machine = g.M.Machine.meaning c.args.machine.now in
-    let source = g.S.Source.supply c.args.source.now in
+pub run-requires-ready : goal.run-requires-ready
+run-requires-ready g c = (empty_service, keeps_in_memory (IsKept c.new.result empty_service) (g.M.Machine.meaning c.args.machine.now) (g.met.M.Machine.moments_told c.args.machine.now) c.new.ensures)
+
+pub returns-clause-serves : goal.returns-clause-serves
+returns-clause-serves g c =
     tenants_served _ _ _ _ _ c.isolation.ensures
-    (served g.M.Machine.meaning service_rules on_any_disk empty_service NoMemory c.finish.result c.args.machine.now c.args.machine.now c.finish.new.machine source source
-    (not_begun service_rules on_any_disk empty_service machine source (stops_here service_rules on_any_disk empty_service NoMemory machine (refl, refl)
-    (g.met.M.Machine.moments_told c.args.machine.now) (λ t image out. g.met.M.Machine.only_now c.args.machine.now image out t) (λ _ _ _. tt)))
-    (counts_stand (NoMemory ≡ SourceFault) source.faults (λ e. cc)) c.finish.ensures.silent c.finish.ensures.finishes c.finish.ensures.areas.told)
+    (c.run.ensures.serves empty_service (keeps_in_memory (IsKept c.new.result empty_service) (g.M.Machine.meaning c.args.machine.now) (g.met.M.Machine.moments_told c.args.machine.now) c.new.ensures))

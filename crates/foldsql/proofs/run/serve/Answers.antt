@@ -27,7 +27,8 @@ turns-init g c =
     let source = g.S.Source.supply c.args.source.now in
     let kept = λ (service : Service). Keeps (g.E.Engine.holds engine service) (g.E.Engine.may_leave engine) machine in
     record {
-      ready = c.requires;
+      sound = c.requires.sound;
+      ready = c.requires.ready;
       stands = λ first keeps. subst (λ (reading : Reading). Stands g.E.Engine.rules g.E.Engine.laid first kept machine machine source source reading) (sym c.in-Ok.ensures)
           (stands_first g.E.Engine.rules g.E.Engine.laid first kept machine source keeps (replied_first g.E.Engine.rules g.E.Engine.laid first machine
           (moments_first g.E.Engine.rules g.E.Engine.laid first machine (g.met.M.Machine.moments_told c.args.machine.now) (λ t image out. g.met.M.Machine.only_now c.args.machine.now image out t)
@@ -47,6 +48,7 @@ returns-in-Some-clause-areas g c alone = areas_join _ _ _ (c.turns.invariant.are
 
 pub turns-preserved : goal.turns-preserved
 turns-preserved g c = record {
+  sound = c.in_default-turn.ensures.sound;
   ready = c.in_default-turn.ensures.ready;
   stands = λ first keeps. stands_on _ _ g.met.E.Engine.prints first _ _ _ _ _ _ _ _ _ _ (c.turns.invariant.stands first keeps) c.in_default-turn.ensures.counts.told c.in_default-turn.ensures.turns;
   counts = machine_join None _ _ _ c.turns.invariant.counts c.in_default-turn.ensures.counts;

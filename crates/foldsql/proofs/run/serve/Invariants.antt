@@ -12,6 +12,7 @@ invariant-turns g l =
     let meaning = g.M.Machine.meaning in
     let supply = g.S.Source.supply in
     record {
+      sound : g.E.Engine.sound l.engine;
       ready : (service : Service) × Keeps (g.E.Engine.holds l.engine service) (g.E.Engine.may_leave l.engine) (meaning l.machine);
       stands : (first : Service) → Keeps (g.E.Engine.holds l.fn.engine first) (g.E.Engine.may_leave l.fn.engine) (meaning l.fn.machine)
           → Stands g.E.Engine.rules g.E.Engine.laid first (λ service. Keeps (g.E.Engine.holds l.engine service) (g.E.Engine.may_leave l.engine) (meaning l.machine))

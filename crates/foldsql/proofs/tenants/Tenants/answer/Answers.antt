@@ -1,6 +1,6 @@
 -- A line that spells the command asks for its tenant, and any other is not served.
 use Rattle.std.proofs.Common.{inl, refl}
-use Rattle.mt_tree.specs.declared.simple.SimpleCmd.TheVariants.{CreateTenant}
+use Rattle.mt_tree.specs.declared.command.AdminCmd.TheVariants.{CreateTenant}
 use Rattle.mt_model.specs.Said.{Says, Unserved}
 use Rattle.mt_model.specs.Request.{Command}
 use Rattle.foldsql.proofs.tenants.Tenants.answer.Goals as goal

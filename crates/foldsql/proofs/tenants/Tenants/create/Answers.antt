@@ -1,7 +1,8 @@
 -- The map has the tenants of the service, and the sum is that of its quotas.
 use Rattle.std.proofs.Common.{◌∙◌, inl, sym, ap, arith}
 use Rattle.mt_tree.specs.declared.reply.Reply.TheVariants.{Text}
-use Rattle.mt_model.specs.Service.{quota_total}
+use Rattle.mt_catalog.specs.Rules.{quota_total}
+use Rattle.mt_model.specs.Service.{Service, catalogue_of}
 use Rattle.foldsql.proofs.Quotas.{contains_service, service_with, quota_total-with_tenant, exists_stepped, too_large_stepped, created_stepped}
 use Rattle.foldsql.proofs.tenants.Tenants.create.Goals as goal
 
@@ -20,7 +21,7 @@ pub invariant_of-self-2 : goal.invariant_of-self-2
 invariant_of-self-2 c =
     let more = service_with c.self.inside.quotas.entries c.insert.new.self.entries c.args.tenant c.args.quota c.in-Ok-insert.ensures.updates.0 in
     let absent = contains_service c.self.inside.quotas.entries c.args.tenant ∙ sym c.contains_key.ensures ∙ c.if-contains_key.false in
-    let sum = ap quota_total more ∙ quota_total-with_tenant _ c.args.tenant c.args.quota absent in
+    let sum = ap (λ (service : Service). quota_total (catalogue_of service)) more ∙ quota_total-with_tenant _ c.args.tenant c.args.quota absent in
     record { sum = omega (arith, c.self.invariant.sum, sum); upto = omega arith }
 
 pub returns : goal.returns
