@@ -142,18 +142,18 @@ fn refuses_lines(rt: HostRuntime) -> Result<(), Fail> {
 #[test]
 fn bounds_tables_and_tenants(rt: HostRuntime) -> Result<(), Fail> {
     let mut script = Script::new(rt.alloc());
-    for number in 1..=17 {
-        let line = format!(in rt.alloc(); "@admin CREATE TABLE t{number} (a INTEGER)")?;
-        let reply = if number <= 16 {
+    for tenant in 1..=1001 {
+        let line = format!(in rt.alloc(); "@admin CREATE TENANT {tenant} QUOTA 1")?;
+        let reply = if tenant <= 1000 {
             "ok\n"
         } else {
             "error E43 limit\n"
         };
         script.add(line.as_bytes(), reply)?;
     }
-    for tenant in 1..=1001 {
-        let line = format!(in rt.alloc(); "@admin CREATE TENANT {tenant} QUOTA 1")?;
-        let reply = if tenant <= 1000 {
+    for number in 1..=17 {
+        let line = format!(in rt.alloc(); "@admin CREATE TABLE t{number} (a INTEGER)")?;
+        let reply = if number <= 16 {
             "ok\n"
         } else {
             "error E43 limit\n"
