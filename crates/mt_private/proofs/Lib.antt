@@ -12,4 +12,3 @@ pub mod Printing
 pub mod Sound
 pub mod StepAnswers
 pub mod Stepped
-pub mod Sizes
