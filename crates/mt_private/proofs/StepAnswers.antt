@@ -1,14 +1,11 @@
 -- What a schema step is answered, and what is kept then.
-use Rattle.std.proofs.Common.{◌≡◌, inl, inr, ℕ, ◌≤◌, Bool, true, Option, None, Some, List, [], ◌∷◌, length, sum_by, codes, refl, sym, ap, ◌∙◌, subst}
-use Rattle.std.specs.List.{range_with_len}
+use Rattle.std.proofs.Common.{◌≡◌, inl, inr, ℕ, ◌≤◌, Bool, true, Option, None, Some, List, [], ◌∷◌, length, codes, refl, sym, ap, ◌∙◌, subst}
 use Rattle.mt_tree.specs.declared.code.Code.{Code}
 use Rattle.mt_tree.specs.declared.code.Code.TheVariants.{UnknownName}
 use Rattle.mt_tree.specs.declared.command.AdminCmd.{AdminCmd}
 use Rattle.mt_tree.specs.declared.command.AdminCmd.TheVariants.{CreateTable, CreateExtension, CreateTenant, Extend, SetQuota}
-use Rattle.mt_tree.specs.declared.reply.Reply.{Reply}
 use Rattle.mt_tree.specs.declared.reply.Reply.TheVariants.{Memory, Refused, Text}
 use Rattle.mt_catalog.specs.declared.state.Extension.{Extension}
-use Rattle.mt_catalog.specs.declared.state.TenantTable.{TenantTable}
 use Rattle.mt_catalog.specs.State.{State, extended_columns, tenant_table}
 use Rattle.mt_schema.specs.Refusals.{extend_tests, extended_tests, extension_named, step_refusal, step_tests}
 use Rattle.mt_schema.specs.Steps.{IsWellFormed, stepped}

@@ -1,5 +1,5 @@
 -- What is kept of the tables once a schema step was made.
-use Rattle.std.proofs.Common.{◌≡◌, ◌≢◌, ⊎_elim, ℕ, zero, suc, ◌+◌, ◌<◌, ◌≤◌, Bool, true, false, cond, ◌&&◌, List, [], ◌∷◌, ◌++◌, length, map, sum_by, Option, None, Some, refl, sym, ap, ◌∙◌, subst, arith, append_assoc, eq-eqb, ne_eqb}
+use Rattle.std.proofs.Common.{◌≡◌, ◌≢◌, ⊎_elim, ℕ, zero, suc, ◌+◌, ◌≤◌, Bool, true, false, cond, ◌&&◌, List, [], ◌∷◌, ◌++◌, length, map, sum_by, Option, None, Some, refl, sym, ap, ◌∙◌, subst, arith, append_assoc, eq-eqb, ne_eqb}
 use Rattle.std.specs.Prelude.{All, flat_map, is_some, nat_eq, not, option_map, replicate, slice_get}
 use Rattle.std.specs.List.{range_with_len}
 use Rattle.std.specs.FinMap as finite
@@ -16,13 +16,12 @@ use Rattle.mt_tree.specs.declared.command.Def.{Def}
 use Rattle.mt_tree.specs.declared.row.MarkedRow.{MarkedRow}
 use Rattle.mt_tree.specs.declared.schema.Column.{Column}
 use Rattle.mt_tree.specs.declared.schema.Table.{Table}
-use Rattle.mt_tree.specs.Rows.{AreSound}
 use Rattle.mt_fold.proofs.Members.{Side, in_first, side}
 use Rattle.mt_fold.proofs.Members.Side.{stands_in_first, stands_in_second}
 use Rattle.mt_catalog.specs.declared.state.Extension.{Extension}
 use Rattle.mt_catalog.specs.declared.state.TenantEntry.{TenantEntry}
 use Rattle.mt_catalog.specs.declared.state.TenantTable.{TenantTable}
-use Rattle.mt_catalog.specs.Rules.{IsCatalogue, IsExtension, IsPlain, IsTenant}
+use Rattle.mt_catalog.specs.Rules.{IsCatalogue, IsExtension, IsPlain}
 use Rattle.mt_catalog.specs.State.{State, base_columns, extended_columns, extension_columns, table_in, tenant_table}
 use Rattle.mt_catalog.proofs.Limits.{member_keeps}
 use Rattle.mt_schema.specs.Refusals.{first_holding, quota_tests, step_refusal, tenant_tests}

@@ -1,5 +1,5 @@
 -- By the tenant's lists, if it is there.
-use Rattle.std.proofs.Common.{◌≡◌, ◌<◌, ◌^◌, length, sym, ap, ◌∙◌, subst, arith}
+use Rattle.std.proofs.Common.{◌<◌, ◌^◌, length, sym, ap, ◌∙◌, subst, arith}
 use Rattle.std.specs.FinMap as finite
 use Rattle.mt_catalog.specs.State.{State}
 use Rattle.mt_model.specs.Service.{kept_of}

@@ -1,5 +1,5 @@
 -- By the tests, the next catalogue and the rows.
-use Rattle.std.proofs.Common.{◌≡◌, Result, Err, codes, sym, ap, ◌∙◌, subst}
+use Rattle.std.proofs.Common.{Err, sym, ap, subst}
 use Rattle.mt_tree.specs.declared.reply.Reply.TheVariants.{Memory, Refused, Text}
 use Rattle.mt_catalog.specs.State.{State}
 use Rattle.mt_model.specs.Request.{Command}
