@@ -20,7 +20,7 @@ no_quotas : quota_total empty_state ≡ 0
 unfolding empty_state quota_total
 no_quotas =
     rw (nil_from_length (finite.entries (finite.empty {X = TenantEntry} {R = nat_cmp}))
-      (sym (finite.len-entries (finite.empty {X = TenantEntry} {R = nat_cmp})) ∙ finite.len-empty nat_cmp TenantEntry)) refl
+    (sym (finite.len-entries (finite.empty {X = TenantEntry} {R = nat_cmp})) ∙ finite.len-empty nat_cmp TenantEntry)) refl
 
 no_tenant : (tenant : ℕ) → finite.get empty_state.tenants tenant ≡ None
 unfolding empty_state

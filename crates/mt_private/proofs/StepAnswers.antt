@@ -77,11 +77,14 @@ module _ (tells_kept : TellsKept) (tells : TellsRefusals) (state : State) (entri
   -- a step that is refused
   pub step_refused : (left : TableRows) (code : Code) → step_refusal state (λ tenant. count) step ≡ Some code → KeepsRows entries left → IsAnswered state state entries left (Command (Says step)) (Refused code)
   step_refused left code is same service kept =
-      let refusal = refusal_is service kept ∙ is in
-      (service, inl (record {
-        reply_is = sym (ap (λ found. (by_refusal service step found).reply) refusal);
-        next_is = sym (ap (λ found. (by_refusal service step found).next) refusal);
-      }), kept_same state entries left service same kept)
+      let refusal = refusal_is service kept ∙ is in (
+        service,
+        inl (record {
+          reply_is = sym (ap (λ found. (by_refusal service step found).reply) refusal);
+          next_is = sym (ap (λ found. (by_refusal service step found).next) refusal);
+        }),
+        kept_same state entries left service same kept,
+      )
 
   -- and one that is made
   module _ (keeps : KeepsParts) (formed : IsWellFormed step) (after : State) (left : TableRows) (made : IsMade state count step after entries left) (service : Service) (kept : AreKept state entries service) where
@@ -108,10 +111,14 @@ module _ (tells_kept : TellsKept) (tells : TellsRefusals) (state : State) (entri
     }
 
     pub step_made : (next : Service) × ComesTo service (Command (Says step)) (Text (codes "ok\n")) next × AreKept after left next
-    step_made = (applied service step, inl (record {
-      reply_is = sym (ap (λ found. (by_refusal service step found).reply) accepted);
-      next_is = sym (ap (λ found. (by_refusal service step found).next) accepted);
-    }), kept_after)
+    step_made = (
+      applied service step,
+      inl (record {
+        reply_is = sym (ap (λ found. (by_refusal service step found).reply) accepted);
+        next_is = sym (ap (λ found. (by_refusal service step found).next) accepted);
+      }),
+      kept_after,
+    )
 
 -- and in the place of each to the administrator's line
 pub said_yields : (service : Service) (said : Said AdminCmd) → YieldsToMemory (command_said service said).reply

@@ -276,7 +276,7 @@ module _ (state : State) (rows : KeptRows) (is : AreTables state rows) (rules : 
     own_table : (number : ℕ) (one : TenantTable) → slice_get entry.tables number ≡ Some one → IsKeptTable (extended_columns after number one.extended) (wide_rows tenant number)
     own_table number one got = ⊎_elim at_base
         (λ apart. subst (IsKeptTable (extended_columns after number one.extended)) (sym (wide_apart rows tenant base (length added) tenant number apart))
-          (is.tables tenant number one (table_of state tenant number can.entry one can.entry_is (sym (changed_elsewhere can.entry.tables base wider number apart) ∙ got))))
+        (is.tables tenant number one (table_of state tenant number can.entry one can.entry_is (sym (changed_elsewhere can.entry.tables base wider number apart) ∙ got))))
         (cases_eq number base)
       where
         at_base : number ≡ base → IsKeptTable (extended_columns after number one.extended) (wide_rows tenant number)
@@ -285,16 +285,16 @@ module _ (state : State) (rows : KeptRows) (is : AreTables state rows) (rules : 
             let own : wider ≡ one = cc in
             subst (λ n. IsKeptTable (extended_columns after n one.extended) (wide_rows tenant n)) (sym same)
             (subst (λ (of : TenantTable). IsKeptTable (extended_columns after base of.extended) (wide_rows tenant base)) own
-              (subst (λ of. IsKeptTable of (wide_rows tenant base)) (sym columns_are)
-                (subst (IsKeptTable (columns ++ added)) (sym (wide_there rows tenant base (length added))) wide_table)))
+            (subst (λ of. IsKeptTable of (wide_rows tenant base)) (sym columns_are)
+            (subst (IsKeptTable (columns ++ added)) (sym (wide_there rows tenant base (length added))) wide_table)))
 
     stand_wide : StandSo after wide_rows
     stand_wide = record {
       tables = λ number at one got. ⊎_elim
           (λ same. subst (λ n. IsKeptTable (extended_columns after at one.extended) (wide_rows n at)) (sym same)
-            (own_table at one (sym (ap (table_in at) (ap (finite.get after.tenants) same ∙ new_tenant state tenant entry)) ∙ got)))
+          (own_table at one (sym (ap (table_in at) (ap (finite.get after.tenants) same ∙ new_tenant state tenant entry)) ∙ got)))
           (λ apart. subst (IsKeptTable (extended_columns after at one.extended)) (sym (wide_other rows tenant base (length added) number at apart))
-            (is.tables number at one (sym (table_at state tenant entry number at apart) ∙ got)))
+          (is.tables number at one (sym (table_at state tenant entry number at apart) ∙ got)))
           (cases_eq number tenant);
       quotas = λ number one got.
           subst (λ n. n ≤ one.quota) (sum_same (λ b. length (rows number b)) (λ b. length (wide_rows number b)) 0 (length state.bases) (λ b above. sym (wide_length rows tenant base (length added) number b)))

@@ -70,11 +70,7 @@ fn widen_list(
 }
 
 /// The rows with so many NULLs behind each.
-fn widened(
-    alloc: Global,
-    rows: &[MarkedRow],
-    count: usize,
-) -> Result<List<MarkedRow>, AllocError>
+fn widened(alloc: Global, rows: &[MarkedRow], count: usize) -> Result<List<MarkedRow>, AllocError>
     ensures { IfOk result (λ wide. wide ≡ map (with_nulls count) rows.now) }
 {
     let mut wide = List::new(alloc);

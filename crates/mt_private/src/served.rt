@@ -6,9 +6,7 @@ ghost use Rattle.mt_model.specs.Served.{bare_item, bare_ref, statement_tree};
 ghost use Rattle.mt_private.specs.Finding.{Finds};
 
 use mt_list::List;
-use mt_tree::{
-    AdminCmd, Atom, ColName, Expr, Insert, Item, Names, Ref, Select, SimpleStmt, Stmt,
-};
+use mt_tree::{AdminCmd, Atom, ColName, Expr, Insert, Item, Names, Ref, Select, SimpleStmt, Stmt};
 use mt_value::Str;
 use std::alloc::{AllocError, Global};
 

@@ -4,6 +4,7 @@ ghost use Rattle.mt_private.specs.Kept.{IsKept};
 
 use crate::Plain;
 use mt_script::reply_bytes;
+use std::process::Abort;
 use std::test::Fail;
 
 /// Lines, and what each is answered.
@@ -186,14 +187,8 @@ const STEPS: [(&str, &str); 56] = [
         "@1 SELECT d, b FROM t",
         "columns d|b\nNULL|'x'\nNULL|'y'\n'de'|'z'\nok 3\n",
     ),
-    (
-        "@admin EXTEND 1 WITH e",
-        "error E41 column name taken\n",
-    ),
-    (
-        "@admin EXTEND 1 WITH f",
-        "error E41 column name taken\n",
-    ),
+    ("@admin EXTEND 1 WITH e", "error E41 column name taken\n"),
+    ("@admin EXTEND 1 WITH f", "error E41 column name taken\n"),
     ("@2 SELECT * FROM t", "columns a|b\n2|'x'\nok 1\n"),
     ("@admin EXTEND 2 WITH f", "ok\n"),
     ("@2 SELECT * FROM t", "columns a|b|d\n2|'x'|NULL\nok 1\n"),
@@ -293,6 +288,11 @@ fn chunks_are_too_many(rt: HostRuntime) -> Result<(), Fail> {
         let line = format!(in alloc; "@admin EXTEND 1 WITH e{number}")?;
         answer(&rt, &mut plain, line.as_str(), "ok\n");
     }
-    answer(&rt, &mut plain, "@admin EXTEND 1 WITH e16", "error E63 too many chunks\n");
+    answer(
+        &rt,
+        &mut plain,
+        "@admin EXTEND 1 WITH e16",
+        "error E63 too many chunks\n",
+    );
     Ok(())
 }

@@ -6,19 +6,25 @@ use Rattle.mt_private.proofs.StepAnswers.{said_yields}
 use Rattle.mt_private.proofs.command.command.Goals as goal
 
 pub returns-in-Err-Unread : goal.returns-in-Err-Unread
-returns-in-Err-Unread c =
-    (Unread, subst (ServesAs (λ said. IsCommandSaid c.args.text.now said)) (ap Err c.in-Err-Unread.field-0-is) c.in-Err-Unread.ensures,
-     λ service kept. (service, inl (record { reply_is = refl; next_is = refl }), kept))
+returns-in-Err-Unread c = (
+  Unread,
+  subst (ServesAs (λ said. IsCommandSaid c.args.text.now said)) (ap Err c.in-Err-Unread.field-0-is) c.in-Err-Unread.ensures,
+  λ service kept. (service, inl (record { reply_is = refl; next_is = refl }), kept),
+)
 
 pub returns-in-Err-Outside : goal.returns-in-Err-Outside
-returns-in-Err-Outside c =
-    (Outside, subst (ServesAs (λ said. IsCommandSaid c.args.text.now said)) (ap Err c.in-Err-Outside.field-0-is) c.in-Err-Outside.ensures,
-     λ service kept. (service, inl (record { reply_is = refl; next_is = refl }), kept))
+returns-in-Err-Outside c = (
+  Outside,
+  subst (ServesAs (λ said. IsCommandSaid c.args.text.now said)) (ap Err c.in-Err-Outside.field-0-is) c.in-Err-Outside.ensures,
+  λ service kept. (service, inl (record { reply_is = refl; next_is = refl }), kept),
+)
 
 pub returns-in-Err-Unserved : goal.returns-in-Err-Unserved
-returns-in-Err-Unserved c =
-    (Unserved, subst (ServesAs (λ said. IsCommandSaid c.args.text.now said)) (ap Err c.in-Err-Unserved.field-0-is) c.in-Err-Unserved.ensures,
-     λ service kept. (service, inl (record { reply_is = refl; next_is = refl }), kept))
+returns-in-Err-Unserved c = (
+  Unserved,
+  subst (ServesAs (λ said. IsCommandSaid c.args.text.now said)) (ap Err c.in-Err-Unserved.field-0-is) c.in-Err-Unserved.ensures,
+  λ service kept. (service, inl (record { reply_is = refl; next_is = refl }), kept),
+)
 
 pub returns-in-Err-Memory : goal.returns-in-Err-Memory
 returns-in-Err-Memory c =

@@ -16,7 +16,7 @@ overflow_cast-tenant c =
 pub count_kept-requires : goal.count_kept-requires
 count_kept-requires c =
     let fits = count_fits c.args.catalog.now c.args.rows.now.entries c.named_tenant-tenant.result c.in-Some.field-0.now
-      (found_entry c.tenant_of.result c.in-Some.field-0 (finite.get c.args.catalog.now.tenants c.named_tenant-tenant.result) c.in-Some.is c.tenant_of.ensures) c.requires.0 c.requires.1 in
+    (found_entry c.tenant_of.result c.in-Some.field-0 (finite.get c.args.catalog.now.tenants c.named_tenant-tenant.result) c.in-Some.is c.tenant_of.ensures) c.requires.0 c.requires.1 in
     let bases = c.len.ensures ∙ ap (λ (state : State). length state.bases) c.catalog.view_is in
     subst (λ n. kept_in c.lists_of.result.now n < 2 ^ 64) (sym bases) (subst (λ lists. kept_in lists (length c.args.catalog.now.bases) < 2 ^ 64) (sym c.lists_of.ensures) fits)
 

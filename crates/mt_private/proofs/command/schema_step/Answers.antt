@@ -12,13 +12,13 @@ pub returns-in-Ok : goal.returns-in-Ok
 returns-in-Ok c =
     subst (λ text. IsAnswered c.args.catalog.now c.make_step.new.catalog c.args.rows.now.entries c.make_step.new.rows.entries (Command (Says c.args.step.now)) (Text text)) (sym c.in-Ok.ensures.reply)
     (λ service kept. step_made c.parts_tell_the_service.ensures.kept c.parts_tell_the_service.ensures.refusals c.args.catalog.now c.args.rows.now.entries c.args.step.now c.kept_of-kept.result c.kept_of-kept.ensures
-      c.schema_steps_keep_the_parts.ensures c.requires.formed c.make_step.new.catalog c.make_step.new.rows.entries c.in-Ok.ensures.made service kept)
+    c.schema_steps_keep_the_parts.ensures c.requires.formed c.make_step.new.catalog c.make_step.new.rows.entries c.in-Ok.ensures.made service kept)
 
 pub returns-in-Err-Refused : goal.returns-in-Err-Refused
 returns-in-Err-Refused c =
     subst (λ (state : State). IsAnswered c.args.catalog.now state c.args.rows.now.entries c.make_step.new.rows.entries (Command (Says c.args.step.now)) (Refused c.in-Err-Refused.code)) (sym c.in-Err-Refused.ensures.same_catalog)
     (step_refused c.parts_tell_the_service.ensures.kept c.parts_tell_the_service.ensures.refusals c.args.catalog.now c.args.rows.now.entries c.args.step.now c.kept_of-kept.result c.kept_of-kept.ensures
-      c.make_step.new.rows.entries c.in-Err-Refused.code (c.in-Err-Refused.ensures.refused c.in-Err-Refused.code (ap Err c.in-Err-Refused.field-0-is)) c.in-Err-Refused.ensures.same_rows)
+    c.make_step.new.rows.entries c.in-Err-Refused.code (c.in-Err-Refused.ensures.refused c.in-Err-Refused.code (ap Err c.in-Err-Refused.field-0-is)) c.in-Err-Refused.ensures.same_rows)
 
 pub returns-in-Err-Memory : goal.returns-in-Err-Memory
 returns-in-Err-Memory c =
