@@ -34,7 +34,7 @@ returns-in-Ok-TooLong-clause-turns g c =
     }
 
 pub returns-in-Ok-TooLong-clause-ready : goal.returns-in-Ok-TooLong-clause-ready
-returns-in-Ok-TooLong-clause-ready g c = kept_on c.status_of.result (c.requires.0, keeps_after_emit c.requires.1 c.put_out.ensures.emits)
+returns-in-Ok-TooLong-clause-ready g c = kept_on c.status_of.result (c.requires.ready.0, keeps_after_emit c.requires.ready.1 c.put_out.ensures.emits)
 
 pub returns-in-Ok-End-clause-turns : goal.returns-in-Ok-End-clause-turns
 returns-in-Ok-End-clause-turns g c =
