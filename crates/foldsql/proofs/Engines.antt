@@ -1,5 +1,5 @@
 -- What an engine that keeps its service in memory alone makes of a line: no call on the machine.
-use Rattle.std.proofs.Common.{◌≡◌, inl, ℕ, List}
+use Rattle.std.proofs.Common.{inl, ℕ, List}
 use Rattle.std.specs.Prelude.{IsTrue}
 use Rattle.mt_machine.specs.Meaning.{Disk, Meaning}
 use Rattle.mt_machine.specs.Calls.{Before}

@@ -1,7 +1,8 @@
 //! foldsql: a database for many tenants, each with tables of its own. The program reads lines from
 //! standard input and answers each on standard output before it reads the next. `foldsql run` serves
 //! one line so far, the administrator's command that makes a tenant with a quota of rows;
-//! `foldsql plain` serves tables, tenants and their rows, kept as plain lists in memory.
+//! `foldsql plain` serves tables and their extensions, tenants and their rows, kept as a catalogue and
+//! plain lists in memory.
 //!
 //! The program promises that the replies are those of the service as `mt_model` defines it, one line
 //! after another from the empty service on; that under `plain` no tenant learns of another; that a

@@ -110,6 +110,108 @@ fn keeps_values(rt: HostRuntime) -> Result<(), Fail> {
 }
 
 #[test]
+fn extends_a_tenants_table(rt: HostRuntime) -> Result<(), Fail> {
+    let lines = [
+        (
+            "@admin CREATE TABLE account (aid INTEGER, name VARCHAR(40) NOT NULL, PRIMARY KEY (aid))",
+            "ok\n",
+        ),
+        (
+            "@admin CREATE EXTENSION health ON account (hospital VARCHAR(60), beds INTEGER)",
+            "ok\n",
+        ),
+        ("@admin CREATE TENANT 17 QUOTA 100", "ok\n"),
+        ("@admin CREATE TENANT 35 QUOTA 100", "ok\n"),
+        ("@17 INSERT INTO account VALUES (1, 'Acme')", "ok 1\n"),
+        ("@admin EXTEND 17 WITH health", "ok\n"),
+        (
+            "@17 SELECT * FROM account",
+            "columns aid|name|hospital|beds\n1|'Acme'|NULL|NULL\nok 1\n",
+        ),
+        (
+            "@17 INSERT INTO account VALUES (2, 'Gump')",
+            "error E14 types do not fit\n",
+        ),
+        (
+            "@17 INSERT INTO account VALUES (2, 'Gump', 'State', 1042)",
+            "ok 1\n",
+        ),
+        (
+            "@17 INSERT INTO account VALUES (2, 'Big', NULL, NULL)",
+            "error E23 duplicate key\n",
+        ),
+        (
+            "@17 INSERT INTO account VALUES (3, NULL, NULL, 65)",
+            "error E22 null not allowed\n",
+        ),
+        (
+            "@17 INSERT INTO account VALUES (NULL, 'Big', NULL, 65)",
+            "error E22 null not allowed\n",
+        ),
+        ("@35 INSERT INTO account VALUES (1, 'Ball')", "ok 1\n"),
+        (
+            "@35 SELECT * FROM account",
+            "columns aid|name\n1|'Ball'\nok 1\n",
+        ),
+        ("@35 SELECT beds FROM account", "error E12 unknown column\n"),
+        (
+            "@admin SET QUOTA 17 TO 1",
+            "error E44 quota below rows kept\n",
+        ),
+        ("@admin SET QUOTA 17 TO 2", "ok\n"),
+        (
+            "@17 INSERT INTO account VALUES (3, 'Big', NULL, 65)",
+            "error E30 quota full\n",
+        ),
+        ("@admin SET QUOTA 17 TO 3", "ok\n"),
+        (
+            "@17 INSERT INTO account VALUES (3, 'Big', NULL, 65)",
+            "ok 1\n",
+        ),
+        (
+            "@17 SELECT beds, aid FROM account",
+            "columns beds|aid\nNULL|1\n65|3\n1042|2\nok 3\n",
+        ),
+    ];
+    check(&rt, rt.alloc(), &lines)
+}
+
+#[test]
+fn refuses_schema_steps(rt: HostRuntime) -> Result<(), Fail> {
+    let unknown = "error E42 unknown name\n";
+    let lines = [
+        ("@admin CREATE TABLE t (a INTEGER)", "ok\n"),
+        ("@admin CREATE EXTENSION e ON t (b INTEGER)", "ok\n"),
+        ("@admin CREATE TENANT 1 QUOTA 1", "ok\n"),
+        (
+            "@admin CREATE TABLE u (a INTEGER, PRIMARY KEY (b))",
+            unknown,
+        ),
+        ("@admin CREATE EXTENSION f ON u (b INTEGER)", unknown),
+        ("@admin EXTEND 2 WITH e", unknown),
+        ("@admin EXTEND 1 WITH f", unknown),
+        ("@admin SET QUOTA 2 TO 1", unknown),
+        (
+            "@admin CREATE EXTENSION e ON t (c INTEGER)",
+            "error E40 name exists\n",
+        ),
+        (
+            "@admin CREATE EXTENSION f ON t (a INTEGER)",
+            "error E41 column name taken\n",
+        ),
+        ("@admin EXTEND 1 WITH e", "ok\n"),
+        ("@admin EXTEND 1 WITH e", "error E41 column name taken\n"),
+        ("@admin SET QUOTA 1 TO 0", "error E43 limit\n"),
+        ("@admin SHOW FOLD 1 t", "error E09 not served here\n"),
+        (
+            "@admin CREATE EXTENSION f ON t (c INTEGER NOT NULL)",
+            "error E10 syntax\n",
+        ),
+    ];
+    check(&rt, rt.alloc(), &lines)
+}
+
+#[test]
 fn refuses_lines(rt: HostRuntime) -> Result<(), Fail> {
     let unreadable = "error E02 line not readable\n";
     let cases = [

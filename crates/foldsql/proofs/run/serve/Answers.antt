@@ -1,8 +1,8 @@
 -- Each turn carries the run on, and the last one ends it.
-use Rattle.std.proofs.Common.{◌≡◌, ◌^◌, ◌∙◌, None, refl, sym, subst}
+use Rattle.std.proofs.Common.{◌∙◌, None, refl, sym, subst}
 use Rattle.mt_machine.specs.Keeps.{Keeps}
 use Rattle.mt_model.specs.Service.{Service}
-use Rattle.mt_script.specs.Reader.{Reading, fresh}
+use Rattle.mt_script.specs.Reader.{Reading}
 use Rattle.foldsql.specs.declared.status.Status.TheVariants.{NoMemory}
 use Rattle.foldsql.proofs.Areas.{areas_itself, areas_join}
 use Rattle.foldsql.proofs.Counting.{machine_join, machine_stands}

@@ -1,5 +1,5 @@
 -- The lines so far were answered, and no fault was counted.
-use Rattle.std.proofs.Common.{◌≡◌, ◌+◌, ◌≤◌, IsTrue, None, length}
+use Rattle.std.proofs.Common.{◌≡◌, ◌+◌, IsTrue, None, length}
 use Rattle.mt_machine.specs.Keeps.{Keeps}
 use Rattle.mt_model.specs.Service.{Service}
 use Rattle.foldsql.specs.Serves.{KeepsAreas}

@@ -1,10 +1,10 @@
 -- The reader's answer and what comes of it.
-use Rattle.std.proofs.Common.{◌≡◌, ◌∙◌, inr, refl, sym, ap, subst, true, false, IsTrue, Ok, Err, List, ℕ}
+use Rattle.std.proofs.Common.{refl, Ok, Err}
 use Rattle.mt_machine.specs.Keeps.{Keeps}
 use Rattle.mt_machine.specs.PassesLaws.{keeps_after_emit}
 use Rattle.mt_tree.specs.declared.code.Code.TheVariants as code
 use Rattle.mt_tree.specs.declared.reply.Reply.TheVariants.{Refused}
-use Rattle.mt_script.specs.Lines.{Text, TooLong}
+use Rattle.mt_script.specs.Lines.{TooLong}
 use Rattle.mt_script.specs.declared.reader.Took.TheVariants as took
 use Rattle.mt_script.specs.declared.reader.ReadStop.TheVariants as stop
 use Rattle.mt_model.specs.Service.{Service}

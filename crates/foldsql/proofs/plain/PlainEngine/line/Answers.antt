@@ -1,6 +1,5 @@
 -- The line is answered in memory.
 use Rattle.mt_model.specs.Isolation.{service_rules}
-use Rattle.mt_model.specs.Service.{Service}
 use Rattle.mt_script.specs.Lines.{Text}
 use Rattle.mt_private.specs.Kept.{IsKept}
 use Rattle.foldsql.proofs.Engines.{AnswersFrom, answered_in_memory, keeps_in_memory}
